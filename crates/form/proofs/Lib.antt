@@ -1,0 +1,13 @@
+pub mod LittleEndian
+pub mod Found
+pub mod Places
+pub mod Lookups
+pub mod Reserved
+pub mod ReadsBack
+pub mod Sound
+pub mod Normal
+pub mod Normalising
+pub mod Specimens
+pub mod Walking
+pub mod SkipSteps
+pub mod TextsLast

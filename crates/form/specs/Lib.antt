@@ -1,0 +1,12 @@
+pub mod Numbers
+pub mod Values
+pub mod Table
+pub mod Ids
+pub mod Refusals
+pub mod Readers
+pub mod Reading
+pub mod Skipping
+pub mod Calls
+pub mod Spelling
+pub mod Saves
+pub mod Writing

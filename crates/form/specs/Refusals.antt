@@ -1,0 +1,48 @@
+-- The refusals: the scope paper's table, in its order.
+use Prim.Native.Nat.{ℕ}
+use mathlib.Core.List.{List, [], _∷_}
+
+-- each with what is returned with it
+pub data Refusal : Type 0 where
+  -- the position
+  Eof InvalidRgb : ℕ → Refusal
+  -- the token's position; for the writer 0
+  NotEncodable : ℕ → Refusal
+  -- the bytes needed
+  NoRoom : ℕ → Refusal
+  -- the position
+  BufferTooSmall ReadFailed : ℕ → Refusal
+  -- the place given
+  BadPlace : ℕ → Refusal
+  -- the input's length
+  TooLong : ℕ → Refusal
+
+-- the paper's number
+unfoldable pub refusalNumber : Refusal → ℕ
+refusalNumber (Eof p) = 1
+refusalNumber (InvalidRgb p) = 2
+refusalNumber (NotEncodable p) = 3
+refusalNumber (NoRoom n) = 4
+refusalNumber (BufferTooSmall p) = 5
+refusalNumber (ReadFailed p) = 6
+refusalNumber (BadPlace p) = 7
+refusalNumber (TooLong n) = 8
+
+unfoldable pub refusalValues : Refusal → List ℕ
+refusalValues (Eof p) = p ∷ []
+refusalValues (InvalidRgb p) = p ∷ []
+refusalValues (NotEncodable p) = p ∷ []
+refusalValues (NoRoom n) = n ∷ []
+refusalValues (BufferTooSmall p) = p ∷ []
+refusalValues (ReadFailed p) = p ∷ []
+refusalValues (BadPlace p) = p ∷ []
+refusalValues (TooLong n) = n ∷ []
+
+-- what is wrong with bytes, wherever they stand: too few of them, or a colour that is none
+pub data Fault : Type 0 where
+  tooShort badColour : Fault
+
+-- the refusal of a fault, at a position
+unfoldable pub refusalAt : ℕ → Fault → Refusal
+refusalAt p tooShort = Eof p
+refusalAt p badColour = InvalidRgb p

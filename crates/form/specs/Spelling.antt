@@ -1,0 +1,111 @@
+-- Spelling: the bytes that Token::write gives a value, and which values can be written.
+use Prim.Native.Nat.{ℕ, _^_, _<_}
+use mathlib.Core.Bool.{Bool, true, false, not, _&&_}
+use mathlib.Core.Option.{Option, none, some}
+use mathlib.Core.List.{List, [], _++_}
+use lib.ListN.{length}
+use lib.Dec.{ltb, eqb}
+use mir.Syntax.{w32, w64}
+use mir.Val.{ofZ, SFits}
+use Rattle.form.specs.Numbers.{leBytes, Bytes}
+use Rattle.form.specs.Values.{Value, Open, Close, Equal, U32, U64, F32, F64, Lookup, Id, I32, I64, Truth, Quoted, Unquoted, Rgb, signed32, signed64, nonzero, kind}
+use Rattle.form.specs.Table.{number, text, colour, nothing, reserved}
+use Rattle.form.specs.Ids.{idOf, OPEN, CLOSE, CHANNEL}
+
+-- the id: the first of the table with the value's kind and width
+unfoldable pub tag : Value → ℕ
+tag Open = idOf (nothing Open)
+tag Close = idOf (nothing Close)
+tag Equal = idOf (nothing Equal)
+tag (U32 n) = idOf (number 4 U32)
+tag (U64 n) = idOf (number 8 U64)
+tag (F32 n) = idOf (number 4 F32)
+tag (F64 n) = idOf (number 8 F64)
+tag (Lookup n) = idOf (number 3 Lookup)
+tag (Id i) = i
+tag (I32 z) = idOf (number 4 signed32)
+tag (I64 z) = idOf (number 8 signed64)
+tag (Truth b) = idOf (number 1 nonzero)
+tag (Quoted t) = idOf (text Quoted)
+tag (Unquoted t) = idOf (text Unquoted)
+tag (Rgb r g b a) = idOf colour
+
+-- a colour's channel
+unfoldable pub spelledChannel : ℕ → List ℕ
+spelledChannel n = leBytes 2 CHANNEL ++ leBytes 4 n
+
+unfoldable pub spelledAlpha : Option ℕ → List ℕ
+spelledAlpha none = []
+spelledAlpha (some a) = spelledChannel a
+
+abbrev pub bit : Bool → ℕ
+bit false = 0
+bit true = 1
+
+-- what follows the id
+unfoldable pub body : Value → List ℕ
+body Open = []
+body Close = []
+body Equal = []
+body (U32 n) = leBytes 4 n
+body (U64 n) = leBytes 8 n
+body (F32 n) = leBytes 4 n
+body (F64 n) = leBytes 8 n
+body (Lookup n) = leBytes 3 n
+body (Id i) = []
+body (I32 z) = leBytes 4 (ofZ w32 z)
+body (I64 z) = leBytes 8 (ofZ w64 z)
+body (Truth b) = leBytes 1 (bit b)
+body (Quoted t) = leBytes 2 (length t) ++ t
+body (Unquoted t) = leBytes 2 (length t) ++ t
+body (Rgb r g b a) = leBytes 2 OPEN ++ (spelledChannel r ++ (spelledChannel g ++ (spelledChannel b ++ (spelledAlpha a ++ leBytes 2 CLOSE))))
+
+unfoldable pub spell : Value → List ℕ
+spell v = leBytes 2 (tag v) ++ body v
+
+-- ---- what can be written
+
+-- all but a string over 65,535 bytes, a lookup of 2 ^ 24 or more, and a reserved id in Id
+unfoldable pub writable : Value → Bool
+writable Open = true
+writable Close = true
+writable Equal = true
+writable (U32 n) = true
+writable (U64 n) = true
+writable (F32 n) = true
+writable (F64 n) = true
+writable (Lookup n) = ltb n (2 ^ 24)
+writable (Id i) = not (reserved i)
+writable (I32 z) = true
+writable (I64 z) = true
+writable (Truth b) = true
+writable (Quoted t) = ltb (length t) 65536
+writable (Unquoted t) = ltb (length t) 65536
+writable (Rgb r g b a) = true
+
+-- a lookup that cannot be written
+unfoldable pub wide : Value → Bool
+wide v = eqb (kind v) (kind (Lookup 0)) && not (writable v)
+
+-- ---- what the types of the code say of a token's numbers and text
+
+abbrev pub InTypeAlpha : Option ℕ → Type 0
+InTypeAlpha none = Unit {0}
+InTypeAlpha (some a) = a < 2 ^ 32
+
+abbrev pub InType : Value → Type 0
+InType Open = Unit {0}
+InType Close = Unit {0}
+InType Equal = Unit {0}
+InType (U32 n) = n < 2 ^ 32
+InType (U64 n) = n < 2 ^ 64
+InType (F32 n) = n < 2 ^ 32
+InType (F64 n) = n < 2 ^ 64
+InType (Lookup n) = n < 2 ^ 32
+InType (Id i) = i < 2 ^ 16
+InType (I32 z) = SFits w32 z
+InType (I64 z) = SFits w64 z
+InType (Truth b) = Unit {0}
+InType (Quoted t) = Bytes t
+InType (Unquoted t) = Bytes t
+InType (Rgb r g b a) = (r < 2 ^ 32) × (g < 2 ^ 32) × (b < 2 ^ 32) × InTypeAlpha a

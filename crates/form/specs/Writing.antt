@@ -1,0 +1,39 @@
+-- Writing: what comes into an output with so much room, or why nothing does.
+use Prim.Native.Nat.{ℕ}
+use mathlib.Core.Option.{Option, none, some}
+use mathlib.Core.List.{List}
+use lib.ListN.{length}
+use lib.Dec.{leb}
+use Rattle.form.specs.Numbers.{pick}
+use Rattle.form.specs.Values.{Value}
+use Rattle.form.specs.Refusals.{Refusal, NotEncodable, NoRoom, TooLong}
+use Rattle.form.specs.Spelling.{spell, writable, wide}
+use Rattle.form.specs.Saves.{Walk, done, cut, then, walk, normal, LIMIT}
+
+-- the bytes written; or a refusal, which leaves the output unchanged
+pub data Output : Type 0 where
+  written : List ℕ → Output
+  unwritten : Refusal → Output
+
+-- bytes into an output with room for so many
+unfoldable pub fitted : ℕ → List ℕ → Output
+fitted room bs = pick (leb (length bs) room) (written bs) (unwritten (NoRoom (length bs)))
+
+-- a token
+unfoldable pub write : ℕ → Value → Output
+write room v = pick (writable v) (fitted room (spell v)) (unwritten (NotEncodable 0))
+
+-- the first refusal of a save in file order, a wide lookup being one
+unfoldable pub firstRefusal : Walk → Option Refusal
+firstRefusal done = none
+firstRefusal (cut r) = some r
+firstRefusal (then p n v w) = pick (wide v) (some (NotEncodable p)) (firstRefusal w)
+
+unfoldable pub unless : Option Refusal → Output → Output
+unless none o = o
+unless (some r) o = unwritten r
+
+-- a save in normal form
+unfoldable pub normalise : ℕ → List ℕ → Output
+normalise room s =
+    pick (leb (length s) LIMIT) (unless (firstRefusal (walk s)) (fitted room (normal s))) (unwritten (TooLong (length s)))
