@@ -11,3 +11,4 @@ pub mod Specimens
 pub mod Walking
 pub mod SkipSteps
 pub mod TextsLast
+pub mod Unique

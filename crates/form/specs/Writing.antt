@@ -1,8 +1,8 @@
 -- Writing: what comes into an output with so much room, or why nothing does.
 use Prim.Native.Nat.{ℕ}
 use mathlib.Core.Option.{Option, none, some}
-use mathlib.Core.List.{List}
-use lib.ListN.{length}
+use mathlib.Core.List.{List, _++_}
+use lib.ListN.{length, drop}
 use lib.Dec.{leb}
 use Rattle.form.specs.Numbers.{pick}
 use Rattle.form.specs.Values.{Value}
@@ -14,6 +14,20 @@ use Rattle.form.specs.Saves.{Walk, done, cut, then, walk, normal, LIMIT}
 pub data Output : Type 0 where
   written : List ℕ → Output
   unwritten : Refusal → Output
+
+-- what is answered: how many bytes were written, or the refusal
+pub data Outcome : Type 0 where
+  wrote : ℕ → Outcome
+  declined : Refusal → Outcome
+
+unfoldable pub outcome : Output → Outcome
+outcome (written bs) = wrote (length bs)
+outcome (unwritten r) = declined r
+
+-- what the output holds then: the bytes written, and after them what stood there
+unfoldable pub leaves : Output → List ℕ → List ℕ
+leaves (written bs) out = bs ++ drop (length bs) out
+leaves (unwritten r) out = out
 
 -- bytes into an output with room for so many
 unfoldable pub fitted : ℕ → List ℕ → Output

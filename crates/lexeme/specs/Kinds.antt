@@ -28,3 +28,21 @@ kindBy p = kindOf (sample p)
 
 abbrev pub kindAt : ℕ → TokenKind
 kindAt i = kindBy (after i)
+
+-- the number of a kind: its place in 000's TokenKind
+unfoldable pub kindNumber : TokenKind → ℕ
+kindNumber Open = 0
+kindNumber Close = 1
+kindNumber Equal = 2
+kindNumber U32 = 3
+kindNumber U64 = 4
+kindNumber I32 = 5
+kindNumber BoolKind = 6
+kindNumber Quoted = 7
+kindNumber Unquoted = 8
+kindNumber F32 = 9
+kindNumber F64 = 10
+kindNumber Rgb = 11
+kindNumber I64 = 12
+kindNumber Lookup = 13
+kindNumber Id = 14

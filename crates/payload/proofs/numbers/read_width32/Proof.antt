@@ -1,0 +1,45 @@
+-- `payload::numbers::read_width32` meets its contract. Assumes nothing.
+use mathlib.Core.Path.{refl, sym}
+use native.Mathlib.Omega.{arith}
+use borrow.Author.Needs.{needs}
+use Rattle.form.proofs.LittleEndian.{within}
+use Rattle.form.proofs.Places.{num-lt}
+use Rattle.payload.specs.Answers.{u64Answer}
+use Rattle.payload.proofs.Laws.{gotOf, elseOf}
+use Rattle.payload.proofs.numbers.read_width32.Statement.{statement}
+use Rattle.payload.proofs.numbers.read_width32.Tie as tie
+
+read-width-requires : tie.Need-read-width-requires
+read-width-requires c κs = search needs
+
+enum-known-r : tie.Need-enum-known-r
+enum-known-r c = search needs
+
+enum-told : tie.Need-enum-told
+enum-told c = search needs
+
+refusal-requires : tie.Need-refusal-requires
+refusal-requires c κs = search needs
+
+returns : tie.Need-returns
+returns c = sym (elseOf u64Answer (c .before .before .before .read-width .ensures) (c .before .enum-told .given .1) (c .refusal .ensures) refl)
+
+cast-value : tie.Need-cast-value
+cast-value c =
+    let a = c .before .before .before .before .before .args in
+    omega (arith, within (c .before .before .before .before .before .pre), num-lt (a .width) (a .bytes .now) (a .at) (c .before .before .before .before .shared-slice-known .given) (gotOf u64Answer (c .before .before .before .read-width .ensures) (c .before .r .given .1)))
+
+returns-2 : tie.Need-returns-2
+returns-2 c = sym (gotOf u64Answer (c .before .before .before .read-width .ensures) (c .before .r .given .1))
+
+pub read-width32-spec : {M : Type 1} → statement M
+read-width32-spec =
+    tie.close
+    (tie.spec
+    read-width-requires
+    enum-known-r
+    enum-told
+    refusal-requires
+    returns
+    cast-value
+    returns-2)

@@ -1,0 +1,39 @@
+-- `payload::read_bool` meets its contract. Assumes nothing.
+use mathlib.Core.Path.{refl}
+use Rattle.form.specs.Readers.{mapped}
+use borrow.Author.Needs.{needs}
+use Rattle.payload.specs.Answers.{u64Answer}
+use Rattle.payload.proofs.Laws.{gotOf, elseOf}
+use Rattle.payload.proofs.read_bool.Statement.{statement}
+use Rattle.payload.proofs.read_bool.Tie as tie
+
+read-width-requires : tie.Need-read-width-requires
+read-width-requires c κs = search needs
+
+enum-known-r : tie.Need-enum-known-r
+enum-known-r c = search needs
+
+enum-told : tie.Need-enum-told
+enum-told c = search needs
+
+refusal-requires : tie.Need-refusal-requires
+refusal-requires c κs = search needs
+
+returns : tie.Need-returns
+unfolding mapped
+returns c = rw (elseOf u64Answer (c .before .before .before .read-width .ensures) (c .before .enum-told .given .1) (c .refusal .ensures) refl)
+
+returns-2 : tie.Need-returns-2
+unfolding mapped
+returns-2 c = rw (gotOf u64Answer (c .before .before .before .read-width .ensures) (c .before .r .given .1))
+
+pub read-bool-spec : {M : Type 1} → statement M
+read-bool-spec =
+    tie.close
+    (tie.spec
+    read-width-requires
+    enum-known-r
+    enum-told
+    refusal-requires
+    returns
+    returns-2)

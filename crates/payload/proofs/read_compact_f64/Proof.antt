@@ -1,0 +1,53 @@
+-- `payload::read_compact_f64` meets its contract. Assumes nothing.
+use mathlib.Core.Path.{refl, sym}
+use borrow.Author.Needs.{needs}
+use Rattle.form.specs.Readers.{mapped}
+use Rattle.payload.specs.Answers.{u64Answer}
+use Rattle.payload.proofs.Laws.{gotOf, elseOf}
+use Rattle.payload.proofs.Padding.{at-most-7}
+use Rattle.payload.proofs.read_compact_f64.Statement.{statement}
+use Rattle.payload.proofs.read_compact_f64.Tie as tie
+
+capped-requires : tie.Need-capped-requires
+capped-requires c κs = search needs
+
+read-padded-requires : tie.Need-read-padded-requires
+read-padded-requires c κs = rw (c .capped .ensures) (at-most-7 (c .before .before .args .width))
+
+enum-known-r : tie.Need-enum-known-r
+enum-known-r c = search needs
+
+enum-told : tie.Need-enum-told
+enum-told c = search needs
+
+refusal-requires : tie.Need-refusal-requires
+refusal-requires c κs = search needs
+
+returns : tie.Need-returns
+unfolding mapped
+returns c = rw (sym (c .before .before .before .before .capped .ensures), elseOf u64Answer (c .before .before .before .read-padded .ensures) (c .before .enum-told .given .1) (c .refusal .ensures) refl)
+
+negate-requires : tie.Need-negate-requires
+negate-requires c κs = search needs
+
+returns-2 : tie.Need-returns-2
+unfolding mapped
+returns-2 c = rw (sym (c .before .before .before .before .before .before .capped .ensures), gotOf u64Answer (c .before .before .before .before .before .read-padded .ensures) (c .before .before .before .r .given .1), c .before .if1 .taken, c .negate .ensures)
+
+returns-3 : tie.Need-returns-3
+unfolding mapped
+returns-3 c = rw (sym (c .before .before .before .before .before .capped .ensures), gotOf u64Answer (c .before .before .before .before .read-padded .ensures) (c .before .before .r .given .1), c .if1 .left)
+
+pub read-compact-f64-spec : {M : Type 1} → statement M
+read-compact-f64-spec =
+    tie.close
+    (tie.spec
+    capped-requires
+    read-padded-requires
+    enum-known-r
+    enum-told
+    refusal-requires
+    returns
+    negate-requires
+    returns-2
+    returns-3)

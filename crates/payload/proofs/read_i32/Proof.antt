@@ -1,0 +1,51 @@
+-- `payload::read_i32` meets its contract. Assumes nothing.
+use mathlib.Core.Path.{_≡_, refl}
+use native.Mathlib.Omega.{arith}
+use mir.Syntax.{w32}
+use mir.Val.{toZ, ofZ}
+use Rattle.form.specs.Readers.{mapped}
+use Rattle.form.proofs.Places.{num-lt}
+use borrow.Author.Needs.{needs}
+use Rattle.payload.specs.Answers.{u64Answer}
+use Rattle.payload.proofs.Laws.{gotOf, elseOf}
+use Rattle.payload.proofs.read_i32.Statement.{statement}
+use Rattle.payload.proofs.read_i32.Tie as tie
+
+read-width-requires : tie.Need-read-width-requires
+read-width-requires c κs = search needs
+
+enum-known-r : tie.Need-enum-known-r
+enum-known-r c = search needs
+
+enum-told : tie.Need-enum-told
+enum-told c = search needs
+
+refusal-requires : tie.Need-refusal-requires
+refusal-requires c κs = search needs
+
+returns : tie.Need-returns
+unfolding mapped
+returns c = rw (elseOf u64Answer (c .before .before .before .read-width .ensures) (c .before .enum-told .given .1) (c .refusal .ensures) refl)
+
+signed32-requires : tie.Need-signed32-requires
+signed32-requires c κs =
+    let a = c .before .before .before .before .before .args in
+    omega (arith, num-lt 4 (a .bytes .now) (a .at) (c .before .before .before .before .shared-slice-known .given) (gotOf u64Answer (c .before .before .before .read-width .ensures) (c .before .r .given .1)))
+
+returns-2 : tie.Need-returns-2
+unfolding mapped
+returns-2 c =
+    let t : toZ w32 (ofZ w32 (c .signed32 .result)) ≡ c .signed32 .result = search needs in
+    rw (gotOf u64Answer (c .before .before .before .before .read-width .ensures) (c .before .before .r .given .1), t, c .signed32 .ensures)
+
+pub read-i32-spec : {M : Type 1} → statement M
+read-i32-spec =
+    tie.close
+    (tie.spec
+    read-width-requires
+    enum-known-r
+    enum-told
+    refusal-requires
+    returns
+    signed32-requires
+    returns-2)

@@ -1,0 +1,65 @@
+-- `payload::read_string` meets its contract. Assumes nothing.
+use Prim.Native.Nat.{ℕ}
+use mathlib.Core.Path.{refl, sym}
+use native.Mathlib.Omega.{arith}
+use lib.ListN.{length-drop}
+use Rattle.form.specs.Readers.{placed}
+use Rattle.form.proofs.Places.{string-there, string-short, string-cut}
+use Rattle.payload.specs.declared.answers.Text.{Text}
+use borrow.Author.Needs.{needs}
+use Rattle.payload.specs.Answers.{u64Answer}
+use Rattle.payload.proofs.Laws.{gotOf, elseOf}
+use Rattle.payload.proofs.read_string.Statement.{statement}
+use Rattle.payload.proofs.read_string.Tie as tie
+
+abbrev textAt : ℕ → ℕ → Text
+textAt start len = record { start = start; len = len }
+
+read-width-requires : tie.Need-read-width-requires
+read-width-requires c κs = search needs
+
+enum-known-r : tie.Need-enum-known-r
+enum-known-r c = search needs
+
+enum-told : tie.Need-enum-told
+enum-told c = search needs
+
+refusal-requires : tie.Need-refusal-requires
+refusal-requires c κs = search needs
+
+returns : tie.Need-returns
+unfolding placed
+returns c = rw (string-cut _ _ (elseOf u64Answer (c .before .before .before .read-width .ensures) (c .before .enum-told .given .1) (c .refusal .ensures) refl))
+
+left-requires : tie.Need-left-requires
+left-requires c κs = search needs
+
+returns-2 : tie.Need-returns-2
+unfolding placed
+returns-2 c =
+    let g = gotOf u64Answer (c .before .before .before .before .before .read-width .ensures) (c .before .before .before .r .given .1) in
+    rw (string-short _ _ g (omega arith))
+
+add-next : tie.Need-add-next
+add-next c =
+    let a = c .before .before .before .before .before .before .before .args in
+    omega (arith, length-drop (c .before .before .before .r .given .0 .1 .0) (a .bytes .now))
+
+returns-3 : tie.Need-returns-3
+returns-3 c =
+    let g = gotOf u64Answer (c .before .before .before .before .before .read-width .ensures) (c .before .before .before .r .given .1) in
+    sym (string-there textAt _ _ g (omega arith))
+
+pub read-string-spec : {M : Type 1} → statement M
+read-string-spec =
+    tie.close
+    (tie.spec
+    read-width-requires
+    enum-known-r
+    enum-told
+    refusal-requires
+    returns
+    left-requires
+    returns-2
+    add-next
+    returns-3)

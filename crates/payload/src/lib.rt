@@ -1,0 +1,167 @@
+// Payload reads: a slice and a place in, an answer of our own out. No position is known here.
+pub mod answers;
+mod colour;
+mod compact;
+mod numbers;
+
+ghost use mathlib.Core.Path.{_≡_};
+ghost use mathlib.Core.Bool.{not};
+ghost use lib.Dec.{eqb};
+ghost use mir.Syntax.{w32, w64};
+ghost use mir.Val.{toZ};
+ghost use Rattle.form.specs.Readers.{at as readAt, mapped, placed};
+ghost use Rattle.form.specs.Reading.{num, string, rgb};
+ghost use Rattle.payload.specs.Answers.{u8Answer, u16Answer, u32Answer, u64Answer, i32Answer, i64Answer, boolAnswer, idAnswer, textAnswer, rgbAnswer, textOf};
+ghost use Rattle.payload.specs.Compact.{compact};
+pub use crate::answers::Alpha;
+pub use crate::answers::LexError;
+pub use crate::answers::ReadBool;
+pub use crate::answers::ReadI32;
+pub use crate::answers::ReadI64;
+pub use crate::answers::ReadId;
+pub use crate::answers::ReadRgb;
+pub use crate::answers::ReadString;
+pub use crate::answers::ReadU8;
+pub use crate::answers::ReadU16;
+pub use crate::answers::ReadU32;
+pub use crate::answers::ReadU64;
+pub use crate::answers::Rgb;
+pub use crate::answers::Text;
+use lexeme::LexemeId;
+
+pub fn read_id(bytes: &[u8], at: usize) -> ReadId
+    ensures { λ r. ⌜ idAnswer r ≡ readAt (num 2) (now (bytes .entry)) at ⌝ }
+{
+    let r = numbers::read_width(bytes, at, 2);
+    let ReadU64::Got(x, next) = r else {
+        return ReadId::Refused(r.refusal());
+    };
+    ReadId::Got(LexemeId::new(x as u16), next)
+}
+
+// A string: two bytes of length, and as many bytes of text.
+pub fn read_string(bytes: &[u8], at: usize) -> ReadString
+    ensures { λ r. ⌜ textAnswer r ≡ placed textOf (readAt string (now (bytes .entry)) at) ⌝ }
+{
+    let r = numbers::read_width(bytes, at, 2);
+    let ReadU64::Got(x, start) = r else {
+        return ReadString::Refused(r.refusal());
+    };
+    let len = x as usize;
+    if numbers::left(bytes, start) < len {
+        return ReadString::Refused(LexError::Eof);
+    }
+    let next = start + len;
+    ReadString::Got(Text { start, len }, next)
+}
+
+pub fn read_bool(bytes: &[u8], at: usize) -> ReadBool
+    ensures { λ r. ⌜ boolAnswer r ≡ mapped (λ x. not (eqb x 0)) (readAt (num 1) (now (bytes .entry)) at) ⌝ }
+{
+    let r = numbers::read_width(bytes, at, 1);
+    let ReadU64::Got(x, next) = r else {
+        return ReadBool::Refused(r.refusal());
+    };
+    ReadBool::Got(x != 0, next)
+}
+
+pub fn read_u32(bytes: &[u8], at: usize) -> ReadU32
+    ensures { λ r. ⌜ u32Answer r ≡ readAt (num 4) (now (bytes .entry)) at ⌝ }
+{
+    numbers::read_width32(bytes, at, 4)
+}
+
+pub fn read_u64(bytes: &[u8], at: usize) -> ReadU64
+    ensures { λ r. ⌜ u64Answer r ≡ readAt (num 8) (now (bytes .entry)) at ⌝ }
+{
+    numbers::read_width(bytes, at, 8)
+}
+
+pub fn read_i32(bytes: &[u8], at: usize) -> ReadI32
+    ensures { λ r. ⌜ i32Answer r ≡ mapped (toZ w32) (readAt (num 4) (now (bytes .entry)) at) ⌝ }
+{
+    let r = numbers::read_width(bytes, at, 4);
+    let ReadU64::Got(x, next) = r else {
+        return ReadI32::Refused(r.refusal());
+    };
+    ReadI32::Got(numbers::signed32(x), next)
+}
+
+pub fn read_i64(bytes: &[u8], at: usize) -> ReadI64
+    ensures { λ r. ⌜ i64Answer r ≡ mapped (toZ w64) (readAt (num 8) (now (bytes .entry)) at) ⌝ }
+{
+    let r = numbers::read_width(bytes, at, 8);
+    let ReadU64::Got(x, next) = r else {
+        return ReadI64::Refused(r.refusal());
+    };
+    ReadI64::Got(numbers::signed64(x), next)
+}
+
+// The number that the four bytes of a float spell.
+pub fn read_f32(bytes: &[u8], at: usize) -> ReadU32
+    ensures { λ r. ⌜ u32Answer r ≡ readAt (num 4) (now (bytes .entry)) at ⌝ }
+{
+    read_u32(bytes, at)
+}
+
+pub fn read_f64(bytes: &[u8], at: usize) -> ReadU64
+    ensures { λ r. ⌜ u64Answer r ≡ readAt (num 8) (now (bytes .entry)) at ⌝ }
+{
+    read_u64(bytes, at)
+}
+
+pub fn read_lookup_u8(bytes: &[u8], at: usize) -> ReadU8
+    ensures { λ r. ⌜ u8Answer r ≡ readAt (num 1) (now (bytes .entry)) at ⌝ }
+{
+    let r = numbers::read_width(bytes, at, 1);
+    let ReadU64::Got(x, next) = r else {
+        return ReadU8::Refused(r.refusal());
+    };
+    let value = x as u8;
+    ReadU8::Got(value, next)
+}
+
+pub fn read_lookup_u16(bytes: &[u8], at: usize) -> ReadU16
+    ensures { λ r. ⌜ u16Answer r ≡ readAt (num 2) (now (bytes .entry)) at ⌝ }
+{
+    let r = numbers::read_width(bytes, at, 2);
+    let ReadU64::Got(x, next) = r else {
+        return ReadU16::Refused(r.refusal());
+    };
+    let value = x as u16;
+    ReadU16::Got(value, next)
+}
+
+pub fn read_lookup_u24(bytes: &[u8], at: usize) -> ReadU32
+    ensures { λ r. ⌜ u32Answer r ≡ readAt (num 3) (now (bytes .entry)) at ⌝ }
+{
+    numbers::read_width32(bytes, at, 3)
+}
+
+pub fn read_lookup_u32(bytes: &[u8], at: usize) -> ReadU32
+    ensures { λ r. ⌜ u32Answer r ≡ readAt (num 4) (now (bytes .entry)) at ⌝ }
+{
+    read_u32(bytes, at)
+}
+
+// The number that the eight bytes of a compact float spell.
+pub fn read_compact_f64(bytes: &[u8], at: usize, width: usize, negative: bool) -> ReadU64
+    ensures { λ r. ⌜ u64Answer r ≡ compact width negative (now (bytes .entry)) at ⌝ }
+{
+    let r = compact::read_padded(bytes, at, compact::capped(width));
+    let ReadU64::Got(x, next) = r else {
+        return ReadU64::Refused(r.refusal());
+    };
+    if negative {
+        ReadU64::Got(compact::negate(x), next)
+    } else {
+        ReadU64::Got(x, next)
+    }
+}
+
+// A colour, after its id.
+pub fn read_rgb(bytes: &[u8], at: usize) -> ReadRgb
+    ensures { λ r. ⌜ rgbAnswer r ≡ readAt rgb (now (bytes .entry)) at ⌝ }
+{
+    colour::read_colour(bytes, at)
+}
