@@ -1,0 +1,27 @@
+-- `token::texts::text` meets its contract. Assumes nothing.
+use native.Mathlib.Omega.{arith}
+use borrow.Author.Needs.{needs}
+use Rattle.token.proofs.Laws.{within, beyond}
+use Rattle.token.proofs.texts.text.Statement.{statement}
+use Rattle.token.proofs.texts.text.Tie as tie
+
+sub-if2 : tie.Need-sub-if2
+sub-if2 c = search needs
+
+returns : tie.Need-returns
+returns c =
+    let a = c .before .before .args in
+    rw (within (a .bytes .now) (a .t) (omega arith))
+
+returns-2 : tie.Need-returns-2
+returns-2 c =
+    let a = c .before .before .args in
+    rw (beyond (a .bytes .now) (a .t) (omega arith))
+
+returns-3 : tie.Need-returns-3
+returns-3 c =
+    let a = c .before .args in
+    rw (beyond (a .bytes .now) (a .t) (omega arith))
+
+pub text-spec : {M : Type 1} → statement M
+text-spec = tie.close (tie.spec sub-if2 returns returns-2 returns-3)
