@@ -12,3 +12,4 @@ pub mod Walking
 pub mod SkipSteps
 pub mod TextsLast
 pub mod Unique
+pub mod Elsewhere

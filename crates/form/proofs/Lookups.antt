@@ -95,7 +95,7 @@ arm f (k ∷ []) t h = ap f h ∙ t .0
 arm f (k ∷ k′ ∷ ks) t (inl h) = ap f h ∙ t .0
 arm f (k ∷ k′ ∷ ks) t (inr h) = arm f (k′ ∷ ks) (t .1) h
 
-missed : (x : ℕ) (ks : List ℕ) → (OneOf ks x → ⊥) → among x ks ≡ false
+pub missed : (x : ℕ) (ks : List ℕ) → (OneOf ks x → ⊥) → among x ks ≡ false
 missed x [] h = refl
 missed x (k ∷ []) h = rw (ne-eqb x k h)
 missed x (k ∷ k′ ∷ ks) h = rw (ne-eqb x k (λ e. h (inl e))) (missed x (k′ ∷ ks) (λ e. h (inr e)))

@@ -1,0 +1,66 @@
+-- `skip::walk::over` meets its contract. Assumes nothing.
+use native.Mathlib.Omega.{arith}
+use mathlib.Core.Path.{sym, _∙_}
+use Rattle.payload.proofs.Laws.{gotOf}
+use Rattle.skip.specs.Skips.{passedAnswer}
+use Rattle.skip.proofs.Passing.{passed-on}
+use Rattle.skip.proofs.Turns.{cut-short, deeper, out, higher, onward, over-at}
+use borrow.Author.Needs.{needs}
+use Rattle.skip.proofs.walk.over.Statement.{statement}
+use Rattle.skip.proofs.walk.over.Tie as tie
+
+add-deeper : tie.Need-add-deeper
+add-deeper c = search needs
+
+returns : tie.Need-returns
+returns c = record { answer = sym (out _ _ _ _ (c .before .match .keys2) (c .if1 .taken)); moves = tt }
+
+sub-higher : tie.Need-sub-higher
+sub-higher c = search needs
+
+skip-payload-requires : tie.Need-skip-payload-requires
+skip-payload-requires c κs = search needs
+
+enum-known-passed : tie.Need-enum-known-passed
+enum-known-passed c = search needs
+
+enum-told : tie.Need-enum-told
+enum-told c = search needs
+
+returns-2 : tie.Need-returns-2
+returns-2 c = record { answer = sym (cut-short _ _ _ _ (gotOf passedAnswer (c .before .before .skip-payload .ensures) (c .enum-told .given .1))); moves = tt }
+
+returns-3 : tie.Need-returns-3
+returns-3 c =
+    let f = gotOf passedAnswer (c .before .before .before .before .skip-payload .ensures) (c .before .before .passed .given .1) in
+    let m = c .before .before .before .before .before .match .rest in
+    record { answer = sym (onward _ _ _ _ (m .0 .1) (m .1) f ∙ over-at _ _ _ (c .if2 .taken)); moves = tt }
+
+returns-4 : tie.Need-returns-4
+returns-4 c = record { answer = sym (deeper _ _ _ _ (c .match .keys1)); moves = omega arith }
+
+returns-5 : tie.Need-returns-5
+returns-5 c = record { answer = sym (higher _ _ _ _ (c .before .match .keys2) (omega arith)); moves = omega arith }
+
+returns-6 : tie.Need-returns-6
+returns-6 c =
+    let f = gotOf passedAnswer (c .before .before .before .before .skip-payload .ensures) (c .before .before .passed .given .1) in
+    let m = c .before .before .before .before .before .match .rest in
+    let l = passed-on _ _ _ f in
+    record { answer = sym (onward _ _ _ _ (m .0 .1) (m .1) f); moves = (l, omega arith, omega arith) }
+
+pub over-spec : {M : Type 1} → statement M
+over-spec =
+    tie.close
+    (tie.spec
+    add-deeper
+    returns
+    sub-higher
+    skip-payload-requires
+    enum-known-passed
+    enum-told
+    returns-2
+    returns-3
+    returns-4
+    returns-5
+    returns-6)

@@ -1,0 +1,148 @@
+// The walk: ids and what follows them, with a depth.
+ghost use mathlib.Core.Path.{_≡_};
+ghost use Prim.Native.Nat.{_*_, _≤_};
+ghost use Rattle.form.specs.Readers.{at as readAt, mapped};
+ghost use Rattle.form.specs.Reading.{num, string as stringOf};
+ghost use Rattle.form.specs.Skipping.{passing};
+ghost use Rattle.skip.specs.Skips.{skipAnswer, passedAnswer};
+ghost use Rattle.skip.specs.Walks.{walkAfter, Turned};
+use crate::Skipped;
+use lexeme::LexemeId;
+use lexeme::number;
+use payload::LexError;
+use payload::ReadId;
+use payload::ReadString;
+
+// The place after a payload; or too few bytes for it.
+pub enum Passed {
+    To(usize),
+    Short,
+}
+
+// After an id and its payload: on at a depth, out of the value that the walk began with, or too few bytes.
+pub enum Turn {
+    On(usize, u64),
+    Out(usize),
+    Short,
+}
+
+// Past so many bytes.
+fn fixed(bytes: &[u8], at: usize, width: usize) -> Passed
+    ensures { λ r. ⌜ passedAnswer r ≡ mapped (λ _. tt) (readAt (num width) (now (bytes .entry)) at) ⌝ }
+{
+    if split::split_rest(bytes, at).len() < width {
+        return Passed::Short;
+    }
+    let end = at + width;
+    Passed::To(end)
+}
+
+fn string(bytes: &[u8], at: usize) -> Passed
+    ensures { λ r. ⌜ passedAnswer r ≡ mapped (λ _. tt) (readAt stringOf (now (bytes .entry)) at) ⌝ }
+{
+    let text = payload::read_string(bytes, at);
+    let ReadString::Got(_, next) = text else {
+        return Passed::Short;
+    };
+    Passed::To(next)
+}
+
+// Past the payload of an id, where a colour's id stands alone. It has one caller, and its arms are single numbers no two of
+// which are neighbours, so that it compiles to jump tables in the caller's loop.
+fn skip_payload(bytes: &[u8], at: usize, id: LexemeId) -> Passed
+    ensures { λ r. ⌜ passedAnswer r ≡ passing (id .0) (now (bytes .entry)) at ⌝ }
+{
+    let n = id.0;
+    match n {
+        number::QUOTED | number::UNQUOTED | number::STR_SAV03 => string(bytes, at),
+        number::BOOL
+        | number::LOOKUP_U8
+        | number::LOOKUP_U8_ALT
+        | number::LOOKUP_U8_SAV03
+        | number::FIXED5_U8
+        | number::FIXED5_I8 => fixed(bytes, at, 1),
+        number::LOOKUP_U16
+        | number::LOOKUP_U16_ALT
+        | number::LOOKUP_U16_SAV03
+        | number::FIXED5_U16
+        | number::FIXED5_I16 => fixed(bytes, at, 2),
+        number::LOOKUP_U24
+        | number::LOOKUP_U24_ALT
+        | number::LOOKUP_U24_SAV03
+        | number::FIXED5_U24
+        | number::FIXED5_I24 => fixed(bytes, at, 3),
+        number::U32
+        | number::I32
+        | number::LOOKUP_U32
+        | number::LOOKUP_U32_ALT
+        | number::LOOKUP_U32_SAV03
+        | number::FIXED5_U32
+        | number::FIXED5_I32 => fixed(bytes, at, 4),
+        number::F32 => fixed(bytes, at, 4),
+        number::FIXED5_U40 | number::FIXED5_I40 => fixed(bytes, at, 5),
+        number::FIXED5_U48 | number::FIXED5_I48 => fixed(bytes, at, 6),
+        number::FIXED5_U56 | number::FIXED5_I56 => fixed(bytes, at, 7),
+        number::U64 | number::I64 | number::F64 => fixed(bytes, at, 8),
+        _ => Passed::To(at),
+    }
+}
+
+// Over what the id just before the place starts.
+fn over(bytes: &[u8], at: usize, id: LexemeId, depth: u64) -> Turn
+    requires { ⌜ 2 * depth ≤ at ⌝ }
+    ensures { λ r. ⌜ Turned (id .0) depth (now (bytes .entry)) at r ⌝ }
+{
+    let n = id.0;
+    match n {
+        number::OPEN => {
+            let deeper = depth + 1;
+            Turn::On(at, deeper)
+        }
+        number::CLOSE => {
+            if depth < 2 {
+                return Turn::Out(at);
+            }
+            let higher = depth - 1;
+            Turn::On(at, higher)
+        }
+        _ => {
+            let passed = skip_payload(bytes, at, id);
+            let Passed::To(end) = passed else {
+                return Turn::Short;
+            };
+            if depth == 0 {
+                return Turn::Out(end);
+            }
+            Turn::On(end, depth)
+        }
+    }
+}
+
+// From the id that stands just before the place to the end of the value that it starts.
+pub(crate) fn skip_from(bytes: &[u8], start: usize, first: LexemeId) -> Skipped
+    ensures { λ r. ⌜ skipAnswer r ≡ walkAfter (first .0) 0 (now (bytes .entry)) start ⌝ }
+{
+    let mut at = start;
+    let mut id = first;
+    let mut depth: u64 = 0;
+    loop {
+        let turn = over(bytes, at, id, depth);
+        match turn {
+            Turn::On(end, inner) => {
+                let read = payload::read_id(bytes, end);
+                let ReadId::Got(lexeme, next) = read else {
+                    return Skipped::Refused(read.refusal(), end);
+                };
+                at = next;
+                id = lexeme;
+                depth = inner;
+            }
+            Turn::Out(end) => {
+                return Skipped::To(end);
+            }
+            Turn::Short => {
+                return Skipped::Refused(LexError::Eof, at);
+            }
+        }
+    }
+}
