@@ -1,7 +1,7 @@
 -- When a save is normalised: exactly when it is clean and there is room. Assumes nothing.
 use Prim.Native.Nat.{ℕ, _≤_}
 use native.Mathlib.Omega.{arith}
-use mathlib.Core.Path.{_≡_, refl, sym, ap, _∙_}
+use mathlib.Core.Path.{_≡_, refl, _∙_}
 use mathlib.Core.Bool.{Bool, true, false, not, _&&_}
 use mathlib.Core.Option.{Option, none, some}
 use mathlib.Core.List.{List}
@@ -12,7 +12,7 @@ use Rattle.form.specs.Numbers.{pick, Bytes}
 use Rattle.form.specs.Refusals.{Refusal, NotEncodable, NoRoom, TooLong}
 use Rattle.form.specs.Spelling.{wide}
 use Rattle.form.specs.Saves.{Walk, done, cut, then, walk, values, whole, tokens, normal, allNarrow, LIMIT, Clean}
-use Rattle.form.specs.Writing.{Output, written, unwritten, fitted, firstRefusal, unless, normalise}
+use Rattle.form.specs.Writing.{written, unwritten, fitted, firstRefusal, unless, normalise}
 
 -- a save has no refusal exactly when it reads to its end and holds no wide lookup
 unrefused : (w : Walk) → T (whole w) → T (allNarrow (values w)) → firstRefusal w ≡ none

@@ -44,7 +44,7 @@ Fine (number w f) = (n : ℕ) → n < 256 ^ w → Good w (f n)
 Fine (text f) = (t : List ℕ) → Bytes t → length t < 65536 → Good (2 + length t) (f t)
 Fine colour = Unit {0}
 
-widen : {n w : ℕ} (k : ℕ) → w ≤ k → n < 256 ^ w → n < 256 ^ k
+pub widen : {n w : ℕ} (k : ℕ) → w ≤ k → n < 256 ^ w → n < 256 ^ k
 widen k h l = lt-of-lt-of-le l (pow-le-pow-right (lit< tt) h)
 
 infixr 20 _&_

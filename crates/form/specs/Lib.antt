@@ -10,3 +10,7 @@ pub mod Calls
 pub mod Spelling
 pub mod Saves
 pub mod Writing
+pub mod Fast
+pub mod Keys
+pub mod Ascii
+pub mod Listing

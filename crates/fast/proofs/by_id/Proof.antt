@@ -1,0 +1,284 @@
+-- `fast::by_id` meets its contract: an arm knows which entry of the table its number is in, and the default that none has it. Assumes nothing.
+use mathlib.Core.Path.{refl, ap}
+use mathlib.Core.Logic.{⊎-elim}
+use mathlib.Core.List.{[]}
+use lib.Dec.{lit≤}
+use Rattle.form.specs.Values as F
+use Rattle.form.specs.Table.{after, orPlain, find, entries, table}
+use Rattle.form.specs.Fast.{front, over, stepBy}
+use Rattle.form.proofs.Lookups.{unquoted-at, lookup1-at, lookup2-at, lookup3-at, lookup4-at, range-from, compact-at, negated-at, plain-below, plain-above}
+use Rattle.lexeme.specs.Kinds.{kindNumber}
+use Rattle.lexeme.specs.declared.TokenKind.the-variants.{Open, Close, Equal, U32, U64, I32, Bool, Quoted, Unquoted, F32, F64, I64}
+use Rattle.fast.proofs.Laws.{at-most-7, narrow, Ready, copy-arm, lookup-arm, compact-arm, negated-arm, text-arm, alone-arm, zeros-held, id-arm, arm-by}
+use borrow.Author.Needs.{needs}
+use Rattle.fast.proofs.by_id.Statement.{statement}
+use Rattle.fast.proofs.by_id.Tie as tie
+
+alone-requires : tie.Need-alone-requires
+alone-requires c κs = search needs
+
+alone-requires-2 : tie.Need-alone-requires-2
+alone-requires-2 c κs = search needs
+
+alone-requires-3 : tie.Need-alone-requires-3
+alone-requires-3 c κs = search needs
+
+copy-requires : tie.Need-copy-requires
+copy-requires c κs = search needs
+
+copy-requires-2 : tie.Need-copy-requires-2
+copy-requires-2 c κs = search needs
+
+copy-requires-3 : tie.Need-copy-requires-3
+copy-requires-3 c κs = search needs
+
+copy-requires-4 : tie.Need-copy-requires-4
+copy-requires-4 c κs = search needs
+
+copy-requires-5 : tie.Need-copy-requires-5
+copy-requires-5 c κs = search needs
+
+copy-requires-6 : tie.Need-copy-requires-6
+copy-requires-6 c κs = search needs
+
+copy-requires-7 : tie.Need-copy-requires-7
+copy-requires-7 c κs = search needs
+
+string-requires : tie.Need-string-requires
+string-requires c κs = search needs
+
+string-requires-2 : tie.Need-string-requires-2
+string-requires-2 c κs = search needs
+
+alone-requires-4 : tie.Need-alone-requires-4
+alone-requires-4 c κs = search needs
+
+slow-requires : tie.Need-slow-requires
+slow-requires c κs = search needs
+
+copy-requires-8 : tie.Need-copy-requires-8
+copy-requires-8 c κs = search needs
+
+copy-requires-9 : tie.Need-copy-requires-9
+copy-requires-9 c κs = search needs
+
+copy-requires-10 : tie.Need-copy-requires-10
+copy-requires-10 c κs = search needs
+
+copy-requires-11 : tie.Need-copy-requires-11
+copy-requires-11 c κs = search needs
+
+sub-compact : tie.Need-sub-compact
+unfolding entries table
+sub-compact c = range-from _ (c .before .before .match .rest) (c .before .if1 .left)
+
+cast-compact : tie.Need-cast-compact
+cast-compact c = narrow _ 0x0d47 (c .if2 .taken)
+
+compact-requires : tie.Need-compact-requires
+compact-requires c κs = (at-most-7 _ 0x0d47 (c .if2 .taken), c .before .before .before .before .pre .0)
+
+sub-compact-2 : tie.Need-sub-compact-2
+sub-compact-2 c = search needs
+
+cast-compact-2 : tie.Need-cast-compact-2
+cast-compact-2 c = narrow _ 0x0d4e (c .if3 .taken)
+
+compact-requires-2 : tie.Need-compact-requires-2
+compact-requires-2 c κs = (at-most-7 _ 0x0d4e (c .if3 .taken), c .before .before .before .before .before .pre .0)
+
+named-requires : tie.Need-named-requires
+named-requires c κs = search needs
+
+returns : tie.Need-returns
+unfolding after orPlain find entries table F.kind kindNumber front over
+returns c =
+    let a = c .before .before .before in
+    let r : Ready (a .args .window .now) (a .args .held) = record { bytes = c .before .before .shared-slice-known .given; long = a .pre .0; eight = search needs } in
+    arm-by (a .args .window .now) (a .args .held) (a .args .id .0) (c .alone .ensures) (ap after (c .before .match .keys1)) (alone-arm r F.Equal Equal (a .args .held) refl refl)
+
+returns-2 : tie.Need-returns-2
+unfolding after orPlain find entries table F.kind kindNumber front over
+returns-2 c =
+    let a = c .before .before .before in
+    let r : Ready (a .args .window .now) (a .args .held) = record { bytes = c .before .before .shared-slice-known .given; long = a .pre .0; eight = search needs } in
+    arm-by (a .args .window .now) (a .args .held) (a .args .id .0) (c .alone2 .ensures) (ap after (c .before .match .keys2)) (alone-arm r F.Open Open (a .args .held) refl refl)
+
+returns-3 : tie.Need-returns-3
+unfolding after orPlain find entries table F.kind kindNumber front over
+returns-3 c =
+    let a = c .before .before .before in
+    let r : Ready (a .args .window .now) (a .args .held) = record { bytes = c .before .before .shared-slice-known .given; long = a .pre .0; eight = search needs } in
+    arm-by (a .args .window .now) (a .args .held) (a .args .id .0) (c .alone3 .ensures) (ap after (c .before .match .keys3)) (alone-arm r F.Close Close (a .args .held) refl refl)
+
+returns-4 : tie.Need-returns-4
+unfolding after orPlain find entries table F.kind kindNumber front
+returns-4 c =
+    let a = c .before .before .before in
+    let r : Ready (a .args .window .now) (a .args .held) = record { bytes = c .before .before .shared-slice-known .given; long = a .pre .0; eight = search needs } in
+    arm-by (a .args .window .now) (a .args .held) (a .args .id .0) (c .copy .ensures) (ap after (c .before .match .keys4)) (copy-arm r 4 F.U32 U32 (lit≤ tt) (λ _. refl) (λ _. refl))
+
+returns-5 : tie.Need-returns-5
+unfolding after orPlain find entries table F.kind kindNumber front
+returns-5 c =
+    let a = c .before .before .before in
+    let r : Ready (a .args .window .now) (a .args .held) = record { bytes = c .before .before .shared-slice-known .given; long = a .pre .0; eight = search needs } in
+    arm-by (a .args .window .now) (a .args .held) (a .args .id .0) (c .copy2 .ensures) (ap after (c .before .match .keys5)) (copy-arm r 4 F.signed32 I32 (lit≤ tt) (λ _. refl) (λ _. refl))
+
+returns-6 : tie.Need-returns-6
+unfolding after orPlain find entries table F.kind kindNumber front
+returns-6 c =
+    let a = c .before .before .before in
+    let r : Ready (a .args .window .now) (a .args .held) = record { bytes = c .before .before .shared-slice-known .given; long = a .pre .0; eight = search needs } in
+    arm-by (a .args .window .now) (a .args .held) (a .args .id .0) (c .copy3 .ensures) (ap after (c .before .match .keys6)) (copy-arm r 4 F.F32 F32 (lit≤ tt) (λ _. refl) (λ _. refl))
+
+returns-7 : tie.Need-returns-7
+unfolding after orPlain find entries table F.kind kindNumber front
+returns-7 c =
+    let a = c .before .before .before in
+    let r : Ready (a .args .window .now) (a .args .held) = record { bytes = c .before .before .shared-slice-known .given; long = a .pre .0; eight = search needs } in
+    arm-by (a .args .window .now) (a .args .held) (a .args .id .0) (c .copy4 .ensures) (ap after (c .before .match .keys7)) (copy-arm r 8 F.U64 U64 (lit≤ tt) (λ _. refl) (λ _. refl))
+
+returns-8 : tie.Need-returns-8
+unfolding after orPlain find entries table F.kind kindNumber front
+returns-8 c =
+    let a = c .before .before .before in
+    let r : Ready (a .args .window .now) (a .args .held) = record { bytes = c .before .before .shared-slice-known .given; long = a .pre .0; eight = search needs } in
+    arm-by (a .args .window .now) (a .args .held) (a .args .id .0) (c .copy5 .ensures) (ap after (c .before .match .keys8)) (copy-arm r 8 F.signed64 I64 (lit≤ tt) (λ _. refl) (λ _. refl))
+
+returns-9 : tie.Need-returns-9
+unfolding after orPlain find entries table F.kind kindNumber front
+returns-9 c =
+    let a = c .before .before .before in
+    let r : Ready (a .args .window .now) (a .args .held) = record { bytes = c .before .before .shared-slice-known .given; long = a .pre .0; eight = search needs } in
+    arm-by (a .args .window .now) (a .args .held) (a .args .id .0) (c .copy6 .ensures) (ap after (c .before .match .keys9)) (copy-arm r 8 F.F64 F64 (lit≤ tt) (λ _. refl) (λ _. refl))
+
+returns-10 : tie.Need-returns-10
+unfolding after orPlain find entries table F.kind kindNumber front
+returns-10 c =
+    let a = c .before .before .before in
+    let r : Ready (a .args .window .now) (a .args .held) = record { bytes = c .before .before .shared-slice-known .given; long = a .pre .0; eight = search needs } in
+    arm-by (a .args .window .now) (a .args .held) (a .args .id .0) (c .copy7 .ensures) (ap after (c .before .match .keys10)) (copy-arm r 1 F.nonzero Bool (lit≤ tt) (λ _. refl) (λ _. refl))
+
+returns-11 : tie.Need-returns-11
+unfolding after orPlain find entries table F.kind kindNumber front
+returns-11 c =
+    let a = c .before .before .before in
+    let r : Ready (a .args .window .now) (a .args .held) = record { bytes = c .before .before .shared-slice-known .given; long = a .pre .0; eight = search needs } in
+    arm-by (a .args .window .now) (a .args .held) (a .args .id .0) (c .string .ensures) (ap after (c .before .match .keys11)) (text-arm r F.Quoted Quoted refl)
+
+returns-12 : tie.Need-returns-12
+unfolding F.kind kindNumber
+returns-12 c =
+    let a = c .before .before .before in
+    let r : Ready (a .args .window .now) (a .args .held) = record { bytes = c .before .before .shared-slice-known .given; long = a .pre .0; eight = search needs } in
+    arm-by (a .args .window .now) (a .args .held) (a .args .id .0) (c .string2 .ensures) (unquoted-at (c .before .match .keys12)) (text-arm r F.Unquoted Unquoted refl)
+
+returns-13 : tie.Need-returns-13
+unfolding after orPlain find entries table F.kind kindNumber front
+returns-13 c =
+    let a = c .before .before .before in
+    let r : Ready (a .args .window .now) (a .args .held) = record { bytes = c .before .before .shared-slice-known .given; long = a .pre .0; eight = search needs } in
+    arm-by (a .args .window .now) (a .args .held) (a .args .id .0) (c .alone4 .ensures) (ap after (c .before .match .keys13)) (alone-arm r (F.Quoted []) Quoted _ refl (zeros-held r))
+
+returns-14 : tie.Need-returns-14
+unfolding after orPlain find entries table stepBy
+returns-14 c =
+    let a = c .before .before .before in
+    arm-by (a .args .window .now) (a .args .held) (a .args .id .0) (c .slow .ensures) (ap after (c .before .match .keys14)) refl
+
+returns-15 : tie.Need-returns-15
+returns-15 c =
+    let a = c .before .before .before in
+    let r : Ready (a .args .window .now) (a .args .held) = record { bytes = c .before .before .shared-slice-known .given; long = a .pre .0; eight = search needs } in
+    arm-by (a .args .window .now) (a .args .held) (a .args .id .0) (c .copy8 .ensures) (lookup1-at (c .before .match .keys15)) (lookup-arm r 1 (lit≤ tt))
+
+returns-16 : tie.Need-returns-16
+returns-16 c =
+    let a = c .before .before .before in
+    let r : Ready (a .args .window .now) (a .args .held) = record { bytes = c .before .before .shared-slice-known .given; long = a .pre .0; eight = search needs } in
+    arm-by (a .args .window .now) (a .args .held) (a .args .id .0) (c .copy9 .ensures) (lookup2-at (c .before .match .keys16)) (lookup-arm r 2 (lit≤ tt))
+
+returns-17 : tie.Need-returns-17
+returns-17 c =
+    let a = c .before .before .before in
+    let r : Ready (a .args .window .now) (a .args .held) = record { bytes = c .before .before .shared-slice-known .given; long = a .pre .0; eight = search needs } in
+    arm-by (a .args .window .now) (a .args .held) (a .args .id .0) (c .copy10 .ensures) (lookup3-at (c .before .match .keys17)) (lookup-arm r 3 (lit≤ tt))
+
+returns-18 : tie.Need-returns-18
+returns-18 c =
+    let a = c .before .before .before in
+    let r : Ready (a .args .window .now) (a .args .held) = record { bytes = c .before .before .shared-slice-known .given; long = a .pre .0; eight = search needs } in
+    arm-by (a .args .window .now) (a .args .held) (a .args .id .0) (c .copy11 .ensures) (lookup4-at (c .before .match .keys18)) (lookup-arm r 4 (lit≤ tt))
+
+returns-19 : tie.Need-returns-19
+unfolding entries table
+returns-19 c =
+    let a = c .before .before .before .before .before in
+    let r : Ready (a .args .window .now) (a .args .held) = record { bytes = c .before .before .before .before .shared-slice-known .given; long = a .pre .0; eight = search needs } in
+    arm-by (a .args .window .now) (a .args .held) (a .args .id .0) (c .compact .ensures) (compact-at _ (c .before .before .before .match .rest) (c .before .before .if1 .left) (c .before .if2 .taken)) (compact-arm r _)
+
+returns-20 : tie.Need-returns-20
+unfolding entries table
+returns-20 c =
+    let a = c .before .before .before .before .before .before in
+    let r : Ready (a .args .window .now) (a .args .held) = record { bytes = c .before .before .before .before .before .shared-slice-known .given; long = a .pre .0; eight = search needs } in
+    arm-by (a .args .window .now) (a .args .held) (a .args .id .0) (c .compact2 .ensures) (negated-at _ (c .before .before .before .before .match .rest) (c .before .before .if2 .left) (c .before .if3 .taken)) (negated-arm r _)
+
+returns-21 : tie.Need-returns-21
+unfolding entries table
+returns-21 c =
+    let a = c .before .before .before .before in
+    let r : Ready (a .args .window .now) (a .args .held) = record { bytes = c .before .before .before .shared-slice-known .given; long = a .pre .0; eight = search needs } in
+    arm-by (a .args .window .now) (a .args .held) (a .args .id .0) (c .named .ensures) (⊎-elim (λ w. plain-below _ (c .before .before .match .rest) (w .taken)) (λ w. plain-above _ (c .before .before .match .rest) (w .2 .left)) (c .before .if1 .came)) (id-arm r (a .args .id .0) (a .pre .1))
+
+pub by-id-spec : {M : Type 1} → statement M
+by-id-spec =
+    tie.close
+    (tie.spec
+    alone-requires
+    alone-requires-2
+    alone-requires-3
+    copy-requires
+    copy-requires-2
+    copy-requires-3
+    copy-requires-4
+    copy-requires-5
+    copy-requires-6
+    copy-requires-7
+    string-requires
+    string-requires-2
+    alone-requires-4
+    slow-requires
+    copy-requires-8
+    copy-requires-9
+    copy-requires-10
+    copy-requires-11
+    sub-compact
+    cast-compact
+    compact-requires
+    sub-compact-2
+    cast-compact-2
+    compact-requires-2
+    named-requires
+    returns
+    returns-2
+    returns-3
+    returns-4
+    returns-5
+    returns-6
+    returns-7
+    returns-8
+    returns-9
+    returns-10
+    returns-11
+    returns-12
+    returns-13
+    returns-14
+    returns-15
+    returns-16
+    returns-17
+    returns-18
+    returns-19
+    returns-20
+    returns-21)

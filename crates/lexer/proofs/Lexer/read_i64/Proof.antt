@@ -1,0 +1,54 @@
+-- `lexer::Lexer::read_i64` meets its contract. Assumes nothing.
+use borrow.Author.Needs.{needs}
+use native.Mathlib.Omega.{arith}
+use mathlib.Core.Path.{_≡_, refl}
+use mir.Syntax.{w64}
+use mir.Val.{toZ, ofZ}
+use Rattle.form.specs.Readers.{at}
+use Rattle.form.specs.Reading.{num}
+use Rattle.form.proofs.Inside.{inside-mapped, num-inside}
+use Rattle.payload.specs.Answers.{i64Answer}
+use Rattle.payload.proofs.Laws.{gotOf, elseOf}
+use Rattle.lexer.proofs.Laws.{got, cut}
+use Rattle.lexer.proofs.Lexer.read_i64.Statement.{statement}
+use Rattle.lexer.proofs.Lexer.read_i64.Tie as tie
+
+read-i64-requires : tie.Need-read-i64-requires
+read-i64-requires c κs = search needs
+
+enum-known-r : tie.Need-enum-known-r
+enum-known-r c = search needs
+
+enum-told : tie.Need-enum-told
+enum-told c = search needs
+
+refusal-requires : tie.Need-refusal-requires
+refusal-requires c κs = search needs
+
+refused-requires : tie.Need-refused-requires
+refused-requires c κs = search needs
+
+returns : tie.Need-returns
+returns c = cut _ _ _ (elseOf i64Answer (c .before .before .before .before .read-i64 .ensures) (c .before .before .enum-told .given .1) (c .before .refusal .ensures) refl) (c .refused .ensures)
+
+moved-requires : tie.Need-moved-requires
+moved-requires c κs = search needs
+
+returns-2 : tie.Need-returns-2
+returns-2 c =
+    let x = c .before .before .r .given .0 .0 in
+    let t : toZ w64 (ofZ w64 x) ≡ x = search needs in
+    rw t (got _ _ _ (inside-mapped (at (num 8)) _ (num-inside 8 (omega arith))) (gotOf i64Answer (c .before .before .before .before .read-i64 .ensures) (c .before .before .r .given .1)) (c .moved .ensures))
+
+pub read-i64-spec : {M : Type 1} → statement M
+read-i64-spec =
+    tie.close
+    (tie.spec
+    read-i64-requires
+    enum-known-r
+    enum-told
+    refusal-requires
+    refused-requires
+    returns
+    moved-requires
+    returns-2)

@@ -1,0 +1,37 @@
+-- `lexer::Lexer::refused` meets its contract. Assumes nothing.
+use borrow.Author.Needs.{needs}
+use mathlib.Core.Path.{ap, _∙_}
+use Rattle.form.specs.Calls.{refuses, ended, reads}
+use Rattle.lexer.specs.Calls.{cursorOf, placeCall}
+use Rattle.lexer.proofs.Laws.{told, within-in, inside, outside}
+use Rattle.lexer.proofs.Lexer.refused.Statement.{statement}
+use Rattle.lexer.proofs.Lexer.refused.Tie as tie
+
+place-requires : tie.Need-place-requires
+place-requires c κs = search needs
+
+enum-told : tie.Need-enum-told
+enum-told c = search needs
+
+located-requires : tie.Need-located-requires
+located-requires c κs = search needs
+
+enum-known-p : tie.Need-enum-known-p
+enum-known-p c = search needs
+
+returns : tie.Need-returns
+unfolding reads ended
+returns c =
+    let a = c .before .before .before .before .before .args in
+    let h = inside _ _ (told (placeCall (a .self)) (c .before .before .before .place .ensures) (c .before .enum-told .given .1)) in
+    ap (λ r. refuses r (cursorOf (a .self))) (c .located .ensures) ∙ within-in _ _ h
+
+returns-2 : tie.Need-returns-2
+unfolding reads
+returns-2 c =
+    let a = c .before .before .before .before .before .args in
+    outside _ _ (told (placeCall (a .self)) (c .before .before .before .place .ensures) (c .before .p .given .1)) _
+
+pub refused-spec : {M : Type 1} → statement M
+refused-spec =
+    tie.close (tie.spec place-requires enum-told located-requires enum-known-p returns returns-2)
