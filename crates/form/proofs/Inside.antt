@@ -7,7 +7,7 @@ use mathlib.Core.List.{List, []}
 use lib.ListN.{length, drop, drop-of-length-le}
 use lib.Dec.{ltb}
 use borrow.Author.Tests.{ltb-true, ltb-false, lt-leb}
-use Rattle.form.specs.Refusals.{tooShort}
+use Rattle.form.specs.Refusals.{Fault, tooShort}
 use Rattle.form.specs.Readers.{Answer, found, refused, Reader, ByPlace, further, andThen, mapped, placed, _followed-by_, _giving_, at}
 use Rattle.form.specs.Reading.{next, num, string, rgb, token}
 
@@ -30,21 +30,21 @@ inside f h s p a n e = go (ltb p (length s)) refl
         let q : refused tooShort ≡ found a n = rw (d, h) at e in
         let z : _≡_ {A = ℕ} 0 1 = cc in absurd (omega arith)
 
+-- what hands faults on finds no more
+inside-through : {A B : Type 0} (f : ByPlace A) (t : Answer A → Answer B) → ((why : Fault) → t (refused why) ≡ refused why) → Inside f → Inside (λ s p. t (f s p))
+inside-through f t k h s p b n e = go (f s p) refl e
+  where
+    go : (x : Answer _) → f s p ≡ x → t x ≡ found b n → p < length s
+    go (found a m) q e = h s p a m q
+    go (refused why) q e = let z : _≡_ {A = ℕ} 0 1 = cc (k why) in absurd (omega arith)
+
 pub inside-mapped : {A B : Type 0} (f : ByPlace A) (g : A → B) → Inside f → Inside (λ s p. mapped g (f s p))
 unfolding mapped
-inside-mapped f g h s p b n e = go (f s p) refl e
-  where
-    go : (x : Answer _) → f s p ≡ x → mapped g x ≡ found b n → p < length s
-    go (found a m) q e = h s p a m q
-    go (refused why) q e = let z : _≡_ {A = ℕ} 0 1 = cc in absurd (omega arith)
+inside-mapped f g = inside-through f (mapped g) (λ why. refl)
 
 pub inside-placed : {A B : Type 0} (f : ByPlace A) (g : ℕ → A → B) → Inside f → Inside (λ s p. placed g (f s p))
 unfolding placed
-inside-placed f g h s p b n e = go (f s p) refl e
-  where
-    go : (x : Answer _) → f s p ≡ x → placed g x ≡ found b n → p < length s
-    go (found a m) q e = h s p a m q
-    go (refused why) q e = let z : _≡_ {A = ℕ} 0 1 = cc in absurd (omega arith)
+inside-placed f g = inside-through f (placed g) (λ why. refl)
 
 -- ---- the readings
 

@@ -58,16 +58,18 @@ shown (Rgb r g b a) = decimal r ∷ decimal g ∷ decimal b ∷ alphaWords a
 unfoldable pub tokenLine : ℕ → Value → List ℕ
 tokenLine p v = line (decimal p) (ascii (name v) ∷ shown v)
 
--- the last line of a save of n bytes that is read to its end
-unfoldable pub endLine : ℕ → Counts → List ℕ
-endLine n c =
-    line (ascii "end")
-    (decimal n
-    ∷ ascii "tokens" ∷ decimal (c .tokens)
+-- the counts, each with its word in front
+unfoldable pub countWords : Counts → List (List ℕ)
+countWords c =
+    ascii "tokens" ∷ decimal (c .tokens)
     ∷ ascii "containers" ∷ decimal (c .containers)
     ∷ ascii "keys" ∷ decimal (c .keys)
     ∷ ascii "stray" ∷ decimal (c .strays)
-    ∷ [])
+    ∷ []
+
+-- the last line of a save of n bytes that is read to its end
+unfoldable pub endLine : ℕ → Counts → List ℕ
+endLine n c = line (ascii "end") (decimal n ∷ countWords c)
 
 -- the word for a refusal: Eof, InvalidRgb, or NotEncodable, which is of a lookup
 unfoldable pub refusalWord : Refusal → String
