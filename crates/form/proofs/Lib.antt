@@ -13,6 +13,7 @@ pub mod SkipSteps
 pub mod FastAgrees
 pub mod Normal
 pub mod Normalising
+pub mod Outputs
 pub mod Specimens
 pub mod ListingExample
 pub mod Unique

@@ -1,0 +1,41 @@
+-- What `list` answers, by what the first pass measured. Assumes nothing.
+use Prim.Native.Nat.{ℕ, _+_, _≤_, _<_, min}
+use native.Mathlib.Nat.{zero-add}
+use native.Mathlib.Omega.{arith}
+use mathlib.Core.Path.{_≡_, refl, ap, _∙_}
+use mathlib.Core.List.{List, [], _∷_, _++_}
+use lib.ListN.{length, drop}
+use lib.Seq.{sets, sets-eq}
+use borrow.Author.Tests.{le-leb, lt-leb}
+use Rattle.form.specs.Numbers.{Bytes}
+use Rattle.form.specs.Refusals.{NoRoom, TooLong}
+use Rattle.form.specs.Saves.{LIMIT}
+use Rattle.form.specs.Writing.{written, unwritten, fitted}
+use Rattle.form.specs.Listing.{listing, list}
+use Rattle.text.specs.Put.{top}
+use Rattle.listing.proofs.Lengths.{listing-short}
+
+-- an output of no bytes keeps none
+pub none-left : (d : List ℕ) → length d ≡ 0 → d ≡ []
+none-left [] h = refl
+none-left (x ∷ d) h = absurd (omega arith)
+
+pub sets-front : (bs out : List ℕ) → length bs ≤ length out → sets out 0 bs ≡ bs ++ drop (length bs) out
+sets-front bs out h = sets-eq bs out 0 (omega arith) ∙ ap (λ (k : ℕ). bs ++ drop k out) (zero-add (length bs))
+
+module _ (s : List ℕ) (room : ℕ) where
+  pub too-long : LIMIT < length s → list room s ≡ unwritten (TooLong (length s))
+  unfolding list
+  too-long h = rw (lt-leb (length s) LIMIT h)
+
+  module _ (b : Bytes s) (h : length s ≤ LIMIT) {n : ℕ} (e : n ≡ min (0 + length (listing s)) top) where
+    pub measured : n ≡ length (listing s)
+    measured = omega (arith, listing-short s b h)
+
+    pub fits : n ≤ room → list room s ≡ written (listing s)
+    unfolding list fitted
+    fits l = rw (le-leb (length s) LIMIT h, le-leb (length (listing s)) room (omega (arith, measured)))
+
+    pub lacks : room < n → list room s ≡ unwritten (NoRoom n)
+    unfolding list fitted
+    lacks l = rw (le-leb (length s) LIMIT h, lt-leb (length (listing s)) room (omega (arith, measured)), measured)

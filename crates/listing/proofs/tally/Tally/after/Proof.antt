@@ -1,0 +1,76 @@
+-- `listing::tally::Tally::after` meets its contract. Assumes nothing.
+use Rattle.token.specs.Tokens.{valueOf}
+use Rattle.listing.proofs.Counting.{tally-open, tally-stray, tally-close, tally-key, tally-equal, tally-plain, plain-kind}
+use borrow.Author.Needs.{needs}
+use Rattle.listing.proofs.tally.Tally.after.Statement.{statement}
+use Rattle.listing.proofs.tally.Tally.after.Tie as tie
+
+add-c : tie.Need-add-c
+add-c c = search needs
+
+enum-told : tie.Need-enum-told
+enum-told c = search needs
+
+add-c-2 : tie.Need-add-c-2
+add-c-2 c = search needs
+
+add-c-3 : tie.Need-add-c-3
+add-c-3 c = search needs
+
+enum-told-2 : tie.Need-enum-told-2
+enum-told-2 c = search needs
+
+add-c-4 : tie.Need-add-c-4
+add-c-4 c = search needs
+
+sub-c : tie.Need-sub-c
+sub-c c = search needs
+
+enum-told-3 : tie.Need-enum-told-3
+enum-told-3 c = search needs
+
+add-c-5 : tie.Need-add-c-5
+add-c-5 c = search needs
+
+returns : tie.Need-returns
+unfolding valueOf
+returns c s = rw (c .before .before .enum-told .given .1) (tally-open (c .before .before .before .before .before .args .self))
+
+returns-2 : tie.Need-returns-2
+unfolding valueOf
+returns-2 c s = rw (c .before .before .before .enum-told2 .given .1) (tally-stray (c .before .before .before .before .before .before .args .self) (c .before .if1 .taken))
+
+returns-3 : tie.Need-returns-3
+unfolding valueOf
+returns-3 c s = rw (c .before .before .before .enum-told2 .given .1) (tally-close (c .before .before .before .before .before .before .args .self) (c .before .if1 .left))
+
+returns-4 : tie.Need-returns-4
+unfolding valueOf
+returns-4 c s = rw (c .before .before .enum-told3 .given .1) (tally-key (c .before .before .before .before .before .args .self) (c .before .if2 .taken))
+
+returns-5 : tie.Need-returns-5
+unfolding valueOf
+returns-5 c s = rw (c .before .enum-told3 .given .1) (tally-equal (c .before .before .before .before .args .self) (c .if2 .left))
+
+returns-6 : tie.Need-returns-6
+returns-6 c s = tally-plain (c .before .before .before .args .self) (valueOf s (c .before .before .before .args .t)) (plain-kind s (c .before .before .before .args .t) (c .before .match .keys4))
+
+pub after-spec : {M : Type 1} → statement M
+after-spec =
+    tie.close
+    (tie.spec
+    add-c
+    enum-told
+    add-c-2
+    add-c-3
+    enum-told-2
+    add-c-4
+    sub-c
+    enum-told-3
+    add-c-5
+    returns
+    returns-2
+    returns-3
+    returns-4
+    returns-5
+    returns-6)

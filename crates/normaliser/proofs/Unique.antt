@@ -1,0 +1,36 @@
+-- Any two results that the promise allows are equal, and so are the outputs. Assumes nothing.
+use mathlib.Core.Path.{_≡_, refl}
+use mathlib.Core.List.{List}
+use Prim.Native.Nat.{ℕ}
+use lib.ListN.{length}
+use Rattle.form.specs.Refusals as R
+use Rattle.form.specs.Writing.{Outcome, wrote, declined, normalise}
+use Rattle.writer.specs.Writes.{Follows}
+use Rattle.writer.proofs.Unique.{follows-one}
+use Rattle.normaliser.specs.declared.Normalised.{Normalised}
+use Rattle.normaliser.specs.declared.Normalised.the-variants.{Written, Eof, InvalidRgb, NotEncodable, NoRoom, TooLong}
+use Rattle.normaliser.specs.Passes.{normalisedOutcome}
+
+-- the normaliser answers no other refusal
+abbrev normalisedBack : Outcome → Normalised
+normalisedBack (wrote n) = Written n
+normalisedBack (declined (R.Eof p)) = Eof p
+normalisedBack (declined (R.InvalidRgb p)) = InvalidRgb p
+normalisedBack (declined (R.NotEncodable p)) = NotEncodable p
+normalisedBack (declined (R.NoRoom n)) = NoRoom n
+normalisedBack (declined (R.BufferTooSmall p)) = TooLong p
+normalisedBack (declined (R.ReadFailed p)) = TooLong p
+normalisedBack (declined (R.BadPlace p)) = TooLong p
+normalisedBack (declined (R.TooLong n)) = TooLong n
+
+normalised-back : (r : Normalised) → normalisedBack (normalisedOutcome r) ≡ r
+normalised-back (Written n) = refl
+normalised-back (Eof p) = refl
+normalised-back (InvalidRgb p) = refl
+normalised-back (NotEncodable p) = refl
+normalised-back (NoRoom n) = refl
+normalised-back (TooLong n) = refl
+
+pub normalise-one : (s d : List ℕ) {r r′ : Normalised} {d′ d″ : List ℕ}
+    → Follows (normalise (length d) s) (normalisedOutcome r) d d′ → Follows (normalise (length d) s) (normalisedOutcome r′) d d″ → (r ≡ r′) × (d′ ≡ d″)
+normalise-one s d = follows-one normalisedOutcome normalisedBack normalised-back (normalise (length d) s) d

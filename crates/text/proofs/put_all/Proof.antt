@@ -1,0 +1,58 @@
+-- `text::put_all` meets its contract. The invariant: what is left of the bytes, written to the output as it is, gives what the promise says. Assumes nothing.
+use borrow.Author.Needs.{needs}
+use Prim.Native.Nat.{_-_, _≤_}
+use native.Mathlib.Omega.{arith}
+use lib.ListN.{length, drop}
+use Rattle.text.proofs.Writes.{Left, left-all, left-step, left-done}
+use Rattle.text.proofs.Words.{drop-one, drop-all}
+use Rattle.text.proofs.put_all.Statement.{statement}
+use Rattle.text.proofs.put_all.Tie as tie
+
+abbrev Inv-loop : tie.InvT-loop
+Inv-loop out₀ at src next₀ i₀ out next i =
+    (i ≤ length src) × Left out next (drop i src) out₀ at src
+
+abbrev μ-loop : tie.MeasureT-loop
+μ-loop out₀ at src next₀ i₀ out next i = length src - i
+
+loop-holds : tie.Need-loop-holds Inv-loop μ-loop
+loop-holds c = (omega arith, left-all _ _ _ (omega arith))
+
+shared-slice-read-put : tie.Need-shared-slice-read-put Inv-loop μ-loop
+shared-slice-read-put c = omega arith
+
+put-requires : tie.Need-put-requires Inv-loop μ-loop
+put-requires c κs = search needs
+
+add-i : tie.Need-add-i Inv-loop μ-loop
+add-i c = omega arith
+
+loop-less : tie.Need-loop-less Inv-loop μ-loop
+loop-less c = omega arith
+
+loop-again : tie.Need-loop-again Inv-loop μ-loop
+loop-again c =
+    let l = c .before .before .before .before .before .before .loop in
+    let src = c .before .before .before .before .before .before .before .before .before .args .src .now in
+    (omega arith, left-step _ (l .inv .1) (c .before .before .put .ensures) (drop-one src (l .i) (omega arith)))
+
+same-length : tie.Need-same-length Inv-loop μ-loop
+same-length c = c .before .loop .inv .1 .same
+
+returns : tie.Need-returns Inv-loop μ-loop
+returns c = left-done (c .before .loop .inv .1) (drop-all _ _ (c .loop-test .left))
+
+pub put-all-spec : {M : Type 1} → statement M
+put-all-spec =
+    tie.close
+    (tie.spec
+    Inv-loop
+    μ-loop
+    loop-holds
+    shared-slice-read-put
+    put-requires
+    add-i
+    loop-less
+    loop-again
+    same-length
+    returns)

@@ -1,0 +1,59 @@
+-- `text::put_hex` meets its contract. The invariant is that of `put_all`, in hex. Assumes nothing.
+use borrow.Author.Needs.{needs}
+use Prim.Native.Nat.{_-_, _≤_}
+use native.Mathlib.Omega.{arith}
+use lib.ListN.{length, drop}
+use Rattle.form.specs.Ascii.{hex}
+use Rattle.text.proofs.Writes.{Left, left-all, left-step, left-done}
+use Rattle.text.proofs.Words.{hex-one, hex-all}
+use Rattle.text.proofs.put_hex.Statement.{statement}
+use Rattle.text.proofs.put_hex.Tie as tie
+
+abbrev Inv-loop : tie.InvT-loop
+Inv-loop out₀ at src next₀ i₀ out next i =
+    (i ≤ length src) × Left out next (hex (drop i src)) out₀ at (hex src)
+
+abbrev μ-loop : tie.MeasureT-loop
+μ-loop out₀ at src next₀ i₀ out next i = length src - i
+
+loop-holds : tie.Need-loop-holds Inv-loop μ-loop
+loop-holds c = (omega arith, left-all _ _ _ (omega arith))
+
+shared-slice-read-put-pair : tie.Need-shared-slice-read-put-pair Inv-loop μ-loop
+shared-slice-read-put-pair c = omega arith
+
+put-pair-requires : tie.Need-put-pair-requires Inv-loop μ-loop
+put-pair-requires c κs = search needs
+
+add-i : tie.Need-add-i Inv-loop μ-loop
+add-i c = omega arith
+
+loop-less : tie.Need-loop-less Inv-loop μ-loop
+loop-less c = omega arith
+
+loop-again : tie.Need-loop-again Inv-loop μ-loop
+loop-again c =
+    let l = c .before .before .before .before .before .before .loop in
+    let src = c .before .before .before .before .before .before .before .before .before .args .src .now in
+    (omega arith, left-step _ (l .inv .1) (c .before .before .put-pair .ensures) (hex-one src (l .i) (omega arith)))
+
+same-length : tie.Need-same-length Inv-loop μ-loop
+same-length c = c .before .loop .inv .1 .same
+
+returns : tie.Need-returns Inv-loop μ-loop
+returns c = left-done (c .before .loop .inv .1) (hex-all _ _ (c .loop-test .left))
+
+pub put-hex-spec : {M : Type 1} → statement M
+put-hex-spec =
+    tie.close
+    (tie.spec
+    Inv-loop
+    μ-loop
+    loop-holds
+    shared-slice-read-put-pair
+    put-pair-requires
+    add-i
+    loop-less
+    loop-again
+    same-length
+    returns)

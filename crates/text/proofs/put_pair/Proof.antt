@@ -1,0 +1,31 @@
+-- `text::put_pair` meets its contract. Assumes nothing.
+use Rattle.text.proofs.Writes.{put-then}
+use Rattle.text.proofs.Words.{hex-pair}
+use borrow.Author.Needs.{needs}
+use Rattle.text.proofs.put_pair.Statement.{statement}
+use Rattle.text.proofs.put_pair.Tie as tie
+
+digit-requires : tie.Need-digit-requires
+digit-requires c κs = search needs
+
+digit-requires-2 : tie.Need-digit-requires-2
+digit-requires-2 c κs = search needs
+
+put-requires : tie.Need-put-requires
+put-requires c κs = search needs
+
+put-requires-2 : tie.Need-put-requires-2
+put-requires-2 c κs = search needs
+
+same-length : tie.Need-same-length
+same-length c = search needs
+
+returns : tie.Need-returns
+returns c =
+    let g = c .before .before .before .before .before .before .before .before in
+    rw (hex-pair (c .before .before .before .before .before .before .before .before .before .before .before .args .b) (g .before .digit .ensures) (g .digit2 .ensures)) (put-then (c .before .before .before .before .before .before .put .ensures) (c .before .before .put2 .ensures))
+
+pub put-pair-spec : {M : Type 1} → statement M
+put-pair-spec =
+    tie.close
+    (tie.spec digit-requires digit-requires-2 put-requires put-requires-2 same-length returns)

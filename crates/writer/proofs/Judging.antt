@@ -1,0 +1,49 @@
+-- What an answer says of the output. Assumes nothing.
+use Prim.Native.Nat.{ℕ, _≤_}
+use native.Mathlib.Omega.{arith}
+use mathlib.Core.Path.{_≡_, refl, sym, ap, _∙_}
+use mathlib.Core.Bool.{Bool, true, false}
+use mathlib.Core.Option.{Option, none, some}
+use mathlib.Core.List.{List, [], _∷_}
+use mathlib.Core.Logic.{⊎-elim}
+use lib.ListN.{length}
+use types.Run.{OneOf}
+use denote.Enum.Declared.{tagOf}
+use Rattle.form.specs.Numbers.{pick}
+use Rattle.form.specs.Refusals as R
+use Rattle.form.specs.Writing.{Output, written, unwritten, wrote, outcome, leaves, fitted, unless}
+use Rattle.writer.specs.declared.Wrote.{Wrote}
+use Rattle.writer.proofs.Wrote.{the-type}
+use Rattle.writer.specs.declared.Wrote.the-variants.{Written, NotEncodable, NoRoom, BadPlace}
+use Rattle.writer.specs.Writes.{wroteOutcome}
+use Rattle.writer.specs.declared.parts.Parts.{Parts}
+use Rattle.writer.specs.Parts.{spelledBy, misplacedBy, writableBy, writeBy}
+use Rattle.writer.proofs.Fitting.{never, fitted-written}
+
+-- a refusal leaves the output unchanged
+pub refused-leaves : (o : Output) (r : Wrote) (d : List ℕ) → wroteOutcome r ≡ outcome o → OneOf (1 ∷ 2 ∷ 3 ∷ []) (tagOf the-type r) → leaves o d ≡ d
+unfolding outcome leaves
+refused-leaves (unwritten why) r d e q = refl
+refused-leaves (written bs) (Written n) d e q = absurd (⊎-elim (λ h. omega arith) (⊎-elim (λ h. omega arith) (λ h. omega arith)) q)
+refused-leaves (written bs) (NotEncodable p) d e q = never (cc)
+refused-leaves (written bs) (NoRoom n) d e q = never (cc)
+refused-leaves (written bs) (BadPlace p) d e q = never (cc)
+
+-- what is written is the spelling, and it fits
+pub written-fits : (room : ℕ) (s : List ℕ) (p : Parts) (r : Wrote) (n : ℕ) → wroteOutcome r ≡ outcome (writeBy room s p) → r ≡ Written n
+    → (writeBy room s p ≡ written (spelledBy s p)) × (length (spelledBy s p) ≤ room)
+unfolding writeBy unless outcome
+written-fits room s p r n e q = placed (misplacedBy s p) (sym (ap wroteOutcome q) ∙ e)
+  where
+    bs : List ℕ
+    bs = spelledBy s p
+
+    judged : (b : Bool) → wrote n ≡ outcome (pick b (fitted room bs) (unwritten (R.NotEncodable 0)))
+        → (pick b (fitted room bs) (unwritten (R.NotEncodable 0)) ≡ written bs) × (length bs ≤ room)
+    judged true e = let f = fitted-written room bs e in (f .2, f .1)
+    judged false e = never (cc)
+
+    placed : (o : Option R.Refusal) → wrote n ≡ outcome (unless o (pick (writableBy p) (fitted room bs) (unwritten (R.NotEncodable 0))))
+        → (unless o (pick (writableBy p) (fitted room bs) (unwritten (R.NotEncodable 0))) ≡ written bs) × (length bs ≤ room)
+    placed none e = judged (writableBy p) e
+    placed (some why) e = never (cc)

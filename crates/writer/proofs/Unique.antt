@@ -1,0 +1,39 @@
+-- Any two results that the promise allows are equal, and so are the outputs. Assumes nothing.
+use Prim.Native.Nat.{ℕ}
+use mathlib.Core.Path.{_≡_, refl, sym, _∙_}
+use mathlib.Core.List.{List}
+use lib.ListN.{length}
+use Rattle.form.specs.Refusals as R
+use Rattle.form.specs.Writing.{Output, Outcome, wrote, declined}
+use Rattle.form.proofs.Unique.{same}
+use Rattle.token.specs.declared.Token.{Token}
+use Rattle.writer.specs.declared.Wrote.{Wrote}
+use Rattle.writer.specs.declared.Wrote.the-variants.{Written, NotEncodable, NoRoom, BadPlace}
+use Rattle.writer.specs.Writes.{writeToken, wroteOutcome, Follows}
+
+-- of any answer that can be read back from what it stands for
+pub follows-one : {A : Type 0} (answer : A → Outcome) (back : Outcome → A) → ((r : A) → back (answer r) ≡ r) → (o : Output) (d : List ℕ)
+    → {r r′ : A} {d′ d″ : List ℕ} → Follows o (answer r) d d′ → Follows o (answer r′) d d″ → (r ≡ r′) × (d′ ≡ d″)
+follows-one answer back h o d {r} {r′} f g = (same answer back h r r′ (f .answer) (g .answer), f .output ∙ sym (g .output))
+
+-- the writer answers no other refusal
+abbrev wroteBack : Outcome → Wrote
+wroteBack (wrote n) = Written n
+wroteBack (declined (R.Eof p)) = BadPlace p
+wroteBack (declined (R.InvalidRgb p)) = BadPlace p
+wroteBack (declined (R.NotEncodable p)) = NotEncodable p
+wroteBack (declined (R.NoRoom n)) = NoRoom n
+wroteBack (declined (R.BufferTooSmall p)) = BadPlace p
+wroteBack (declined (R.ReadFailed p)) = BadPlace p
+wroteBack (declined (R.BadPlace p)) = BadPlace p
+wroteBack (declined (R.TooLong n)) = BadPlace n
+
+wrote-back : (r : Wrote) → wroteBack (wroteOutcome r) ≡ r
+wrote-back (Written n) = refl
+wrote-back (NotEncodable p) = refl
+wrote-back (NoRoom n) = refl
+wrote-back (BadPlace p) = refl
+
+pub write-one : (s : List ℕ) (t : Token) (d : List ℕ) {r r′ : Wrote} {d′ d″ : List ℕ}
+    → Follows (writeToken (length d) s t) (wroteOutcome r) d d′ → Follows (writeToken (length d) s t) (wroteOutcome r′) d d″ → (r ≡ r′) × (d′ ≡ d″)
+write-one s t d = follows-one wroteOutcome wroteBack wrote-back (writeToken (length d) s t) d

@@ -1,0 +1,57 @@
+-- `writer::judge_text` meets its contract. Assumes nothing.
+use borrow.Author.Needs.{needs}
+use mathlib.Core.Path.{_≡_, sym, ap, _∙_}
+use Prim.Native.Nat.{_+_}
+use native.Mathlib.Omega.{arith}
+use mathlib.Core.Option.{none, some}
+use borrow.Author.Tests.{lt-ltb, le-ltb}
+use denote.Ref.{now}
+use Rattle.form.specs.Refusals.{BadPlace}
+use Rattle.form.specs.Writing.{outcome, unless}
+use Rattle.token.specs.Texts.{placeOf, partOf, placeAnswer}
+use Rattle.writer.specs.Parts.{spelledBy, misplacedBy, writableBy, writeBy}
+use Rattle.writer.proofs.Sizes.{text-size}
+use Rattle.writer.proofs.Splitting.{part-length}
+use Rattle.writer.proofs.judge_text.Statement.{statement}
+use Rattle.writer.proofs.judge_text.Tie as tie
+
+text-requires : tie.Need-text-requires
+text-requires c κs = search needs
+
+enum-known-place : tie.Need-enum-known-place
+enum-known-place c = search needs
+
+enum-told : tie.Need-enum-told
+enum-told c = search needs
+
+returns : tie.Need-returns
+unfolding writeBy misplacedBy writableBy spelledBy unless outcome
+returns c =
+    let a = c .before .before .before .before .before .args in
+    let q : placeOf (now (a .bytes)) (a .t) ≡ none = sym (c .before .before .before .text .ensures) ∙ ap placeAnswer (c .before .enum-told .given .1) in
+    rw (q, le-ltb (a .t .len) 65536 (c .if1 .taken))
+
+add-fit : tie.Need-add-fit
+add-fit c = search needs
+
+fit-requires : tie.Need-fit-requires
+fit-requires c κs = search needs
+
+returns-2 : tie.Need-returns-2
+unfolding writeBy misplacedBy writableBy spelledBy unless outcome
+returns-2 c =
+    let a = c .before .before .before .before .before .args in
+    let q : placeOf (now (a .bytes)) (a .t) ≡ some (BadPlace (c .before .place .given .0 .0)) = sym (c .before .before .before .text .ensures) ∙ ap placeAnswer (c .before .place .given .1) in
+    rw q
+
+returns-3 : tie.Need-returns-3
+unfolding writeBy misplacedBy writableBy spelledBy unless outcome
+returns-3 c =
+    let a = c .before .before .before .before .before .before .args in
+    let s = now (a .bytes) in
+    let q : placeOf s (a .t) ≡ none = sym (c .before .before .before .before .text .ensures) ∙ ap placeAnswer (c .before .before .enum-told .given .1) in
+    rw (q, lt-ltb (a .t .len) 65536 (omega arith))
+    (c .fit .ensures _ (text-size (a .id .0) (partOf s (a .t)) ∙ ap (λ n. 4 + n) (part-length s (a .t) q)))
+
+pub judge-text-spec : {M : Type 1} → statement M
+judge-text-spec = tie.close (tie.spec text-requires enum-known-place enum-told returns add-fit fit-requires returns-2 returns-3)

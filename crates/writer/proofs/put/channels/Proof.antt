@@ -1,0 +1,40 @@
+-- `writer::put::channels` meets its contract. Assumes nothing.
+use borrow.Author.Needs.{needs}
+use native.Mathlib.Omega.{arith}
+use Rattle.writer.proofs.Stores.{put-then, put-length}
+use Rattle.writer.proofs.Sizes.{channel-size, end-size, channels-size}
+use Rattle.writer.proofs.put.channels.Statement.{statement}
+use Rattle.writer.proofs.put.channels.Tie as tie
+
+channel-requires : tie.Need-channel-requires
+channel-requires c κs = omega (arith, channels-size (c .before .before .args .c))
+
+channel-requires-2 : tie.Need-channel-requires-2
+channel-requires-2 c κs =
+    let x = c .before .before .before .before .before .before .args .c in
+    let p = c .before .before .before .channel .ensures in
+    omega (arith, channels-size x, channel-size (x .r), p .next, put-length p)
+
+channel-requires-3 : tie.Need-channel-requires-3
+channel-requires-3 c κs =
+    let x = c .before .before .before .before .before .before .before .before .before .before .args .c in
+    let p = c .before .before .before .before .before .before .before .channel .ensures in
+    let q = c .before .before .before .channel2 .ensures in
+    omega (arith, channels-size x, channel-size (x .r), channel-size (x .g), p .next, put-length p, q .next, put-length q)
+
+colour-end-requires : tie.Need-colour-end-requires
+colour-end-requires c κs =
+    let x = c .before .before .before .before .before .before .before .before .before .before .before .before .before .before .args .c in
+    let p = c .before .before .before .before .before .before .before .before .before .before .before .channel .ensures in
+    let q = c .before .before .before .before .before .before .before .channel2 .ensures in
+    let r = c .before .before .before .channel3 .ensures in
+    omega (arith, channels-size x, channel-size (x .r), channel-size (x .g), channel-size (x .b), end-size (x .a), p .next, put-length p, q .next, put-length q, r .next, put-length r)
+
+same-length : tie.Need-same-length
+same-length c = search needs
+
+returns : tie.Need-returns
+returns c = put-then (c .before .before .before .before .before .before .before .before .before .before .before .before .before .before .channel .ensures) (put-then (c .before .before .before .before .before .before .before .before .before .before .channel2 .ensures) (put-then (c .before .before .before .before .before .before .channel3 .ensures) (c .before .before .colour-end .ensures)))
+
+pub channels-spec : {M : Type 1} → statement M
+channels-spec = tie.close (tie.spec channel-requires channel-requires-2 channel-requires-3 colour-end-requires same-length returns)

@@ -1,0 +1,53 @@
+-- `writer::write` meets its contract. Assumes nothing.
+use borrow.Author.Needs.{needs}
+use mathlib.Core.Path.{sym, ap, _∙_}
+use lib.ListN.{length}
+use denote.Ref.{now}
+use native.Mathlib.Omega.{arith}
+use Rattle.form.specs.Writing.{outcome, leaves}
+use Rattle.writer.specs.Writes.{writeToken}
+use Rattle.writer.proofs.Stores.{put-front}
+use Rattle.writer.proofs.Judging.{refused-leaves, written-fits}
+use Rattle.writer.proofs.write.Statement.{statement}
+use Rattle.writer.proofs.write.Tie as tie
+
+split-requires : tie.Need-split-requires
+split-requires c κs = search needs
+
+judge-requires : tie.Need-judge-requires
+judge-requires c κs = search needs
+
+enum-told : tie.Need-enum-told
+enum-told c = search needs
+
+returns : tie.Need-returns
+returns c =
+    let a = c .before .before .before .before .before .args in
+    let w = c .before .before .split .ensures (length (now (a .out))) (now (a .bytes)) in
+    let e = c .before .judge .ensures ∙ ap outcome w in
+    record {
+      answer = e;
+      output = sym (refused-leaves (writeToken (length (now (a .out))) (now (a .bytes)) (a .token)) (c .before .judge .result) (now (a .out)) e (c .match .keys2));
+    }
+
+parts-requires : tie.Need-parts-requires
+parts-requires c κs =
+    let a = c .before .before .before .before .before .before .before .args in
+    omega (arith, written-fits (length (now (a .out))) (now (a .bytes)) (c .before .before .before .before .split .result) (c .before .before .before .judge .result) (c .before .enum-told .given .0 .0) (c .before .before .before .judge .ensures) (c .before .enum-told .given .1) .1)
+
+same-length : tie.Need-same-length
+same-length c = search needs
+
+returns-2 : tie.Need-returns-2
+unfolding leaves
+returns-2 c =
+    let a = c .before .before .before .before .before .before .before .before .before .before .args in
+    let w = c .before .before .before .before .before .before .before .split .ensures (length (now (a .out))) (now (a .bytes)) in
+    let f = written-fits (length (now (a .out))) (now (a .bytes)) (c .before .before .before .before .before .before .before .split .result) (c .before .before .before .before .before .before .judge .result) (c .before .before .before .before .enum-told .given .0 .0) (c .before .before .before .before .before .before .judge .ensures) (c .before .before .before .before .enum-told .given .1) in
+    record {
+      answer = c .before .before .before .before .before .before .judge .ensures ∙ ap outcome w;
+      output = put-front (f .1) (c .before .before .parts .ensures) ∙ ap (λ o. leaves o (now (a .out))) (sym (f .0) ∙ w);
+    }
+
+pub write-spec : {M : Type 1} → statement M
+write-spec = tie.close (tie.spec split-requires judge-requires enum-told returns parts-requires same-length returns-2)

@@ -1,0 +1,93 @@
+// The checked writer: one token at the front of a lent output.
+mod bits;
+mod parts;
+mod put;
+
+ghost use mathlib.Core.Path.{_≡_};
+ghost use lib.ListN.{length};
+ghost use Rattle.form.specs.Writing.{outcome};
+ghost use Rattle.writer.specs.Parts.{writeBy};
+ghost use Rattle.writer.specs.Writes.{writeToken, wroteOutcome, Follows, Fitted};
+use crate::parts::Parts;
+use lexeme::LexemeId;
+use payload::Alpha;
+use payload::Text;
+use token::TextAnswer;
+use token::Token;
+
+pub enum Wrote {
+    Written(usize),
+    NotEncodable(usize),
+    NoRoom(usize),
+    BadPlace(usize),
+}
+
+// Bytes of this number, by the room that there is.
+fn fit(need: usize, room: usize) -> Wrote
+    ensures { λ r. ⌜ Fitted need room r ⌝ }
+{
+    if need <= room {
+        Wrote::Written(need)
+    } else {
+        Wrote::NoRoom(need)
+    }
+}
+
+fn judge_text(bytes: &[u8], id: LexemeId, t: Text, room: usize) -> Wrote
+    ensures { λ r. ⌜ wroteOutcome r ≡ outcome (writeBy room (now (bytes .entry)) (Parts.Text id t)) ⌝ }
+{
+    let place = token::text(bytes, t);
+    match place {
+        TextAnswer::BadPlace(start) => Wrote::BadPlace(start),
+        TextAnswer::Within => {
+            let len = t.len;
+            if 65535 < len {
+                return Wrote::NotEncodable(0);
+            }
+            fit(4 + len, room)
+        }
+    }
+}
+
+// What a write of the parts answers.
+fn judge(bytes: &[u8], p: Parts, room: usize) -> Wrote
+    ensures { λ r. ⌜ wroteOutcome r ≡ outcome (writeBy room (now (bytes .entry)) p) ⌝ }
+{
+    match p {
+        Parts::Number(_, width, _) => fit(2 + width as usize, room),
+        Parts::Text(id, t) => judge_text(bytes, id, t, room),
+        Parts::Lookup(n) => {
+            if 0xff_ffff < n {
+                return Wrote::NotEncodable(0);
+            }
+            fit(5, room)
+        }
+        Parts::Rgb(c) => {
+            let a = c.a;
+            match a {
+                Alpha::Absent => fit(24, room),
+                Alpha::Given(_) => fit(30, room),
+            }
+        }
+        Parts::Id(x) => {
+            let id = LexemeId::new(x);
+            if id.is_id() {
+                return fit(2, room);
+            }
+            Wrote::NotEncodable(0)
+        }
+    }
+}
+
+// The token at the front of the output, or a refusal that leaves the output as it is. A string's text stands in bytes.
+pub fn write(bytes: &[u8], token: Token, out: &mut [u8]) -> Wrote
+    ensures { λ r. ⌜ Follows (writeToken (length (now (out .entry))) (now (bytes .entry)) token) (wroteOutcome r) (now (out .entry)) (now (out .exit)) ⌝ }
+{
+    let p = parts::split(token);
+    let answer = judge(bytes, p, out.len());
+    let Wrote::Written(_) = answer else {
+        return answer;
+    };
+    put::parts(out, 0, bytes, p);
+    answer
+}
