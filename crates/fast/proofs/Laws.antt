@@ -103,7 +103,7 @@ module _ {s held : List ℕ} (r : Ready s held) where
 
   -- a lookup: eight bytes
   pub lookup-arm : (w : ℕ) → w ≤ 8 → stepped (copied Lookup w s (replicate 8 0)) ≡ stepBy (number w F.Lookup) s held
-  unfolding stepBy stepNumber front F.kind kindNumber
+  unfolding stepBy stepNumber front F.kind
   lookup-arm w h =
       let t = take w (drop 2 s) in
       let size : length t ≡ w = length-take-le w (drop 2 s) (room h) in
@@ -113,11 +113,11 @@ module _ {s held : List ℕ} (r : Ready s held) where
 
   -- a compact number: its eight bytes
   pub compact-arm : (w : ℕ) → stepped (compactly w false s) ≡ stepBy (number w F.F64) s held
-  unfolding stepBy stepNumber front F.kind kindNumber
+  unfolding stepBy stepNumber front F.kind
   compact-arm w = rw (all-eight (le (take w (drop 2 s))) held (r .eight))
 
   pub negated-arm : (w : ℕ) → stepped (compactly w true s) ≡ stepBy (number w F.negative) s held
-  unfolding stepBy stepNumber front F.kind kindNumber
+  unfolding stepBy stepNumber front F.kind
   negated-arm w = rw (all-eight (negated (le (take w (drop 2 s)))) held (r .eight))
 
   -- a string: its length
@@ -141,7 +141,7 @@ module _ {s held : List ℕ} (r : Ready s held) where
   zeros-held = all-eight 0 held (r .eight)
 
   pub id-arm : (i : ℕ) → i ≡ le (take 2 s) → stepped (namedOf s held) ≡ stepBy (nothing (F.Id i)) s held
-  unfolding F.kind kindNumber front
+  unfolding F.kind front
   id-arm i q = alone-arm (F.Id i) Id (take 2 s ++ drop 2 held) refl (rw q (as-read 2 s held bytes (omega (arith, r .long))))
 
 -- an arm: what was answered, by the payload that the id has

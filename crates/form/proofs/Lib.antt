@@ -14,6 +14,8 @@ pub mod FastAgrees
 pub mod Normal
 pub mod Normalising
 pub mod Outputs
+pub mod Runs
+pub mod Signs
 pub mod Specimens
 pub mod ListingExample
 pub mod Unique

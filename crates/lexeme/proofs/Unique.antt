@@ -15,7 +15,7 @@ pub kindOfNumber : ℕ → TokenKind
 kindOfNumber n = getD kinds n Id
 
 pub kind-back : (k : TokenKind) → kindOfNumber (kindNumber k) ≡ k
-unfolding kindOfNumber kindNumber
+unfolding kindOfNumber
 kind-back Open = refl
 kind-back Close = refl
 kind-back Equal = refl

@@ -30,7 +30,7 @@ abbrev pub kindAt : ℕ → TokenKind
 kindAt i = kindBy (after i)
 
 -- the number of a kind: its place in 000's TokenKind
-unfoldable pub kindNumber : TokenKind → ℕ
+abbrev pub kindNumber : TokenKind → ℕ
 kindNumber Open = 0
 kindNumber Close = 1
 kindNumber Equal = 2

@@ -1,11 +1,9 @@
 -- What `list` answers, by what the first pass measured. Assumes nothing.
 use Prim.Native.Nat.{ℕ, _+_, _≤_, _<_, min}
-use native.Mathlib.Nat.{zero-add}
 use native.Mathlib.Omega.{arith}
-use mathlib.Core.Path.{_≡_, refl, ap, _∙_}
-use mathlib.Core.List.{List, [], _∷_, _++_}
-use lib.ListN.{length, drop}
-use lib.Seq.{sets, sets-eq}
+use mathlib.Core.Path.{_≡_, refl}
+use mathlib.Core.List.{List, [], _∷_}
+use lib.ListN.{length}
 use borrow.Author.Tests.{le-leb, lt-leb}
 use Rattle.form.specs.Numbers.{Bytes}
 use Rattle.form.specs.Refusals.{NoRoom, TooLong}
@@ -19,9 +17,6 @@ use Rattle.listing.proofs.Lengths.{listing-short}
 pub none-left : (d : List ℕ) → length d ≡ 0 → d ≡ []
 none-left [] h = refl
 none-left (x ∷ d) h = absurd (omega arith)
-
-pub sets-front : (bs out : List ℕ) → length bs ≤ length out → sets out 0 bs ≡ bs ++ drop (length bs) out
-sets-front bs out h = sets-eq bs out 0 (omega arith) ∙ ap (λ (k : ℕ). bs ++ drop k out) (zero-add (length bs))
 
 module _ (s : List ℕ) (room : ℕ) where
   pub too-long : LIMIT < length s → list room s ≡ unwritten (TooLong (length s))

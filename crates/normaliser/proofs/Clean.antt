@@ -1,13 +1,15 @@
 -- The third demand, of the code: a clean save with room is written in normal form. Assumes nothing.
 use Prim.Native.Nat.{ℕ, _*_, _≤_}
-use mathlib.Core.Path.{_≡_, sym, ap}
+use mathlib.Core.Path.{_≡_, refl, sym, ap, _∙_}
 use mathlib.Core.List.{List, _++_}
 use lib.ListN.{length, drop}
+use Rattle.form.specs.Numbers.{Bytes}
 use Rattle.form.specs.Saves.{normal, Clean}
-use Rattle.form.specs.Writing.{Output, outcome, leaves, normalise}
+use Rattle.form.specs.Writing.{Output, written, unwritten, wrote, outcome, leaves, normalise}
 use Rattle.form.proofs.Normal.{normal-length}
-use Rattle.form.proofs.Normalising.{clean-fits}
+use Rattle.form.proofs.Normalising.{clean-fits, normalised}
 use Rattle.writer.specs.Writes.{Follows}
+use Rattle.writer.proofs.Fitting.{never}
 use Rattle.normaliser.specs.declared.Normalised.{Normalised}
 use Rattle.normaliser.specs.declared.Normalised.the-variants.{Written}
 use Rattle.normaliser.specs.Passes.{normalisedOutcome}
@@ -28,3 +30,13 @@ clean-written {s} {d} {d′} {r} f c h =
     let o = clean-fits c (length d) h in
     let same = normalise-one s d f (record { answer = ap outcome (sym o); output = ap (λ (x : Output). leaves x d) (sym o) }) in
     record { answer = same .0; output = same .1; short = normal-length c }
+
+-- and it writes nothing but that
+pub written-clean : {s d d′ : List ℕ} {r : Normalised} {n : ℕ} → Bytes s → Follows (normalise (length d) s) (normalisedOutcome r) d d′ → r ≡ Written n
+    → Clean s × (length (normal s) ≤ length d)
+unfolding outcome
+written-clean {s} {d} {n = n} b f q = go (normalise (length d) s) refl (sym (ap normalisedOutcome q) ∙ f .answer)
+  where
+    go : (o : Output) → normalise (length d) s ≡ o → wrote n ≡ outcome o → Clean s × (length (normal s) ≤ length d)
+    go (written bs) e h = let k = normalised b e in (k .clean, k .fits)
+    go (unwritten why) e h = never (cc)

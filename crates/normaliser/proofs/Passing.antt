@@ -7,31 +7,38 @@ use mathlib.Core.Bool.{Bool, true, false}
 use mathlib.Core.Option.{Option, none, some}
 use mathlib.Core.List.{List, [], _∷_, _++_, append-nil, append-assoc}
 use mathlib.Core.Logic.{⊎-elim}
-use lib.ListN.{length, take, drop, length-append, length-drop, drop-of-length-le}
+use lib.ListN.{length, take, drop, getD, length-append, length-drop, drop-of-length-le}
 use lib.Seq.{sets, sets-eq, length-sets, drop-drop}
 use borrow.Rule.Slice.PartAt.{part-to-end}
 use borrow.Rule.Slice.PartMut.{put-same}
+use mir.Syntax.{w8}
+use mir.Val.{Fits}
 use denote.Enum.Declared.{tagOf}
 use types.Run.{OneOf}
 use Rattle.form.specs.Numbers.{pick}
 use Rattle.form.specs.Values.{Value}
 use Rattle.form.specs.Refusals as R
+use Rattle.form.specs.Readers.{refused}
 use Rattle.form.specs.Spelling.{spell, wide}
 use Rattle.form.specs.Saves.{Walk, done, cut, walk, values, tokens, spellAll, normal}
 use Rattle.form.specs.Writing.{Output, written, unwritten, Outcome, wrote, declined, outcome, leaves, fitted, firstRefusal, unless}
+use Rattle.form.proofs.LittleEndian.{bytes-all}
 use Rattle.form.proofs.Walking.{from, from-start, from-end}
+use Rattle.payload.proofs.Laws.{gotOf}
 use Rattle.token.specs.declared.Token.{Token}
-use Rattle.token.specs.Tokens.{valueOf}
+use Rattle.token.specs.declared.ReadToken.{ReadToken}
+use Rattle.token.specs.declared.ReadToken.the-variants.{Got}
+use Rattle.token.specs.Tokens.{valueOf, tokenAt, tokenAnswer}
 use Rattle.writer.specs.declared.Wrote.{Wrote}
 use Rattle.writer.specs.declared.Wrote.the-variants as W
 use Rattle.writer.proofs.Wrote.{the-type}
-use Rattle.writer.specs.Writes.{writeToken, wroteOutcome}
+use Rattle.writer.specs.Writes.{writeToken, wroteOutcome, Follows}
 use Rattle.writer.proofs.Stores.{sets-append, sets-front}
 use Rattle.writer.proofs.Fitting.{never, fitted-written, fitted-refused}
 use Rattle.normaliser.specs.declared.Normalised.{Normalised}
-use Rattle.normaliser.specs.declared.Normalised.the-variants.{Written}
+use Rattle.normaliser.specs.declared.Normalised.the-variants.{Written, NotEncodable}
 use Rattle.normaliser.specs.Passes.{normalisedOutcome, unbounded, Passed}
-use Rattle.normaliser.proofs.Steps.{Read}
+use Rattle.normaliser.proofs.Steps.{Read, read-token, read-refused}
 
 wrote-same : {m n : ℕ} → wrote m ≡ wrote n → m ≡ n
 wrote-same e = cc
@@ -144,7 +151,7 @@ module _ {s d₀ d : List ℕ} {i at need next : ℕ} {t : Token} (g : Going s d
       let sum : need + length (spell v ++ rest) ≡ need + length (spell v) + length rest = omega (arith, length-append (spell v) rest) in
       rw (r .walks, w) (ap (answerBy (firstRefusal (from s next))) sum)
 
-  pub going-wide : wide v ≡ true → tally need (from s i) ≡ declined (R.NotEncodable i)
+  going-wide : wide v ≡ true → tally need (from s i) ≡ declined (R.NotEncodable i)
   going-wide w = tallied true w
 
   module _ (n : ℕ) (w : wide v ≡ false) (e : n ≡ length (spell v)) where
@@ -158,14 +165,13 @@ module _ {s d₀ d : List ℕ} {i at need next : ℕ} {t : Token} (g : Going s d
     fits f = rw left (omega (arith, length-append (spell v) rest))
 
   -- the writer has written it, and so turned the part that was lent into ys
-  pub going-written : (ys : List ℕ) (n : ℕ) → wrote n ≡ outcome (doing s d at t) → ys ≡ leaves (doing s d at t) (part d at)
-      → Going s d₀ (back d at ys) next (at + n) (need + n)
+  going-written : (ys : List ℕ) (n : ℕ) → Follows (doing s d at t) (wrote n) (part d at) ys → Going s d₀ (back d at ys) next (at + n) (need + n)
   unfolding leaves fitted
-  going-written ys n h q =
-      let w = is-written (wide v) (length (part d at)) (spell v) (h ∙ ap outcome (r .writes (length (part d at)))) in
+  going-written ys n a =
+      let w = is-written (wide v) (length (part d at)) (spell v) (a .answer ∙ ap outcome (r .writes (length (part d at)))) in
       let room : at + length (spell v) ≤ length d = omega (arith, g .inside, w .2, ap length (part-to-end d at), length-drop at d) in
       let o : doing s d at t ≡ written (spell v) = r .writes (length (part d at)) ∙ w .3 in
-      let new : back d at ys ≡ sets d at (spell v) = ap (back d at) (q ∙ ap (λ (x : Output). leaves x (part d at)) o) ∙ part-written d at (spell v) room in
+      let new : back d at ys ≡ sets d at (spell v) = ap (back d at) (a .output ∙ ap (λ (x : Output). leaves x (part d at)) o) ∙ part-written d at (spell v) room in
       let len : length (sets d at (spell v)) ≡ length d = length-sets d at (spell v) in
       rw new (record {
         there = r .there;
@@ -179,14 +185,13 @@ module _ {s d₀ d : List ℕ} {i at need next : ℕ} {t : Token} (g : Going s d
       })
 
   -- or has found no room for it
-  pub going-counted : (ys : List ℕ) (n : ℕ) → declined (R.NoRoom n) ≡ outcome (doing s d at t) → ys ≡ leaves (doing s d at t) (part d at)
-      → Going s d₀ (back d at ys) next at (need + n)
+  going-counted : (ys : List ℕ) (n : ℕ) → Follows (doing s d at t) (declined (R.NoRoom n)) (part d at) ys → Going s d₀ (back d at ys) next at (need + n)
   unfolding leaves fitted
-  going-counted ys n h q =
-      let w = is-counted (wide v) (length (part d at)) (spell v) (h ∙ ap outcome (r .writes (length (part d at)))) in
+  going-counted ys n a =
+      let w = is-counted (wide v) (length (part d at)) (spell v) (a .answer ∙ ap outcome (r .writes (length (part d at)))) in
       let none′ : length d < at + length (spell v) = omega (arith, g .inside, w .2, ap length (part-to-end d at), length-drop at d) in
       let o : doing s d at t ≡ unwritten (R.NoRoom (length (spell v))) = r .writes (length (part d at)) ∙ w .3 in
-      let new : back d at ys ≡ d = ap (back d at) (q ∙ ap (λ (x : Output). leaves x (part d at)) o) ∙ put-same at (length d - at) d in
+      let new : back d at ys ≡ d = ap (back d at) (a .output ∙ ap (λ (x : Output). leaves x (part d at)) o) ∙ put-same at (length d - at) d in
       rw new (record {
         there = r .there;
         small = small′ n (w .0) (w .1);
@@ -197,7 +202,7 @@ module _ {s d₀ d : List ℕ} {i at need next : ℕ} {t : Token} (g : Going s d
       })
 
   -- or has refused it
-  pub refused-wide : (x : Wrote) → wroteOutcome x ≡ outcome (doing s d at t) → OneOf (1 ∷ 3 ∷ []) (tagOf the-type x) → wide v ≡ true
+  refused-wide : (x : Wrote) → wroteOutcome x ≡ outcome (doing s d at t) → OneOf (1 ∷ 3 ∷ []) (tagOf the-type x) → wide v ≡ true
   refused-wide x h q = is-wide (wide v) (length (part d at)) (spell v) x (h ∙ ap outcome (r .writes (length (part d at)))) q
 
 -- ---- how a pass ends
@@ -219,12 +224,33 @@ going-end {s} {d₀} {d} {i} {at} {need} g h =
           (rw e at b) ∙ sets-front (normal s) d₀ f;
     }
 
-pub going-refused : {s d₀ d : List ℕ} {i at need : ℕ} → Going s d₀ d i at need → {a : Normalised} {r : R.Refusal} (d′ : List ℕ)
+going-refused : {s d₀ d : List ℕ} {i at need : ℕ} → Going s d₀ d i at need → {a : Normalised} {r : R.Refusal} (d′ : List ℕ)
     → tally need (from s i) ≡ declined r → normalisedOutcome a ≡ declined r → Passed s d₀ d′ a
 going-refused {s} g d′ e q =
     let answer = sym e ∙ g .count ∙ tally-all s in
     record { answer = q ∙ answer; bytes = λ n. absurd (not-declined (sym (unbounded-none s n) ∙ sym answer)) }
 
-pub tally-cut : (n : ℕ) {w : Walk} {r : R.Refusal} → w ≡ cut r → tally n w ≡ declined r
+tally-cut : (n : ℕ) {w : Walk} {r : R.Refusal} → w ≡ cut r → tally n w ≡ declined r
 unfolding tally firstRefusal
 tally-cut n e = rw e
+
+-- ---- the same, by what the loop knows
+
+module _ {s d₀ d : List ℕ} {i at need : ℕ} (g : Going s d₀ d i at need) (b : (j : ℕ) → Fits w8 (getD s j 0)) (l : i < length s) where
+  pub next-refused : {e : R.Fault} {a : Normalised} (d′ : List ℕ) → tokenAt s i ≡ refused e → normalisedOutcome a ≡ declined (R.refusalAt i e) → Passed s d₀ d′ a
+  next-refused {e} d′ p q = going-refused g d′ (tally-cut need (read-refused s (bytes-all s b) i l e p)) q
+
+  module _ {r : ReadToken} {t : Token} {next : ℕ} (p : tokenAnswer r ≡ tokenAt s i) (q : r ≡ Got t next) where
+    pub next-read : Read s i t next
+    next-read = read-token s (bytes-all s b) i l t next (gotOf tokenAnswer p q)
+
+    module _ {x : Wrote} {ys : List ℕ} (f : Follows (doing s d at t) (wroteOutcome x) (part d at) ys) where
+      pub next-written : {n : ℕ} → x ≡ W.Written n → Going s d₀ (back d at ys) next (at + n) (need + n)
+      next-written {n} e = going-written g next-read ys n (rw e at f)
+
+      pub next-counted : {n : ℕ} → x ≡ W.NoRoom n → Going s d₀ (back d at ys) next at (need + n)
+      next-counted {n} e = going-counted g next-read ys n (rw e at f)
+
+    pub next-wide : (x : Wrote) {ys : List ℕ} → Follows (doing s d at t) (wroteOutcome x) (part d at) ys → OneOf (1 ∷ 3 ∷ []) (tagOf the-type x)
+        → (d′ : List ℕ) → Passed s d₀ d′ (NotEncodable i)
+    next-wide x f e d′ = going-refused g d′ (going-wide g next-read (refused-wide g next-read x (f .answer) e)) refl

@@ -5,10 +5,8 @@ use mathlib.Core.Path.{_≡_, refl, ap, _∙_}
 use mathlib.Core.Bool.{Bool, true, false, not, _&&_}
 use mathlib.Core.Option.{none, some}
 use mathlib.Core.List.{List}
-use lib.ListN.{length, drop, getD, length-drop}
+use lib.ListN.{length, drop, length-drop}
 use lib.Dec.{T, eqb}
-use mir.Syntax.{w8}
-use mir.Val.{Fits}
 use borrow.Author.Tests.{le-leb}
 use Rattle.form.specs.Numbers.{pick, Bytes}
 use Rattle.form.specs.Values as F
@@ -20,15 +18,12 @@ use Rattle.form.specs.Spelling.{spell, writable, wide}
 use Rattle.form.specs.Saves.{cut, then, step}
 use Rattle.form.specs.Writing.{Output, unwritten, fitted, write, unless}
 use Rattle.form.proofs.Found.{All}
-use Rattle.form.proofs.LittleEndian.{drop-bytes, bytes-all}
-use Rattle.payload.proofs.Laws.{gotOf}
+use Rattle.form.proofs.LittleEndian.{drop-bytes}
 use Rattle.form.proofs.Sound.{Sound, token-sound}
 use Rattle.form.proofs.TextsLast.{texts, Ends, token-ends-at}
 use Rattle.form.proofs.Walking.{from, from-step}
 use Rattle.token.specs.declared.Token.{Token}
-use Rattle.token.specs.declared.ReadToken.{ReadToken}
-use Rattle.token.specs.declared.ReadToken.the-variants.{Got}
-use Rattle.token.specs.Tokens.{tokenOf, valueOf, tokenAt, tokenAnswer}
+use Rattle.token.specs.Tokens.{tokenOf, valueOf, tokenAt}
 use Rattle.token.proofs.Values.{value-token}
 use Rattle.writer.specs.Writes.{misplaced, writeToken}
 use Rattle.writer.proofs.Fitting.{never}
@@ -109,7 +104,3 @@ module _ (s : List ℕ) (b : Bytes s) (i : ℕ) (l : i < length s) where
       go : (a : Answer F.Value) → placed tokenOf (further i a) ≡ refused e → step i a (λ m. from s (i + m)) ≡ cut (R.refusalAt i e)
       go (found v n) q = never (cc)
       go (refused f) q = ap (λ (x : R.Fault). cut (R.refusalAt i x)) (cc)
-
-pub read-got : (s : List ℕ) → ((j : ℕ) → Fits w8 (getD s j 0)) → (i : ℕ) → i < length s → {r : ReadToken} {t : Token} {next : ℕ}
-    → tokenAnswer r ≡ tokenAt s i → r ≡ Got t next → Read s i t next
-read-got s b i l {r} {t} {next} p q = read-token s (bytes-all s b) i l t next (gotOf tokenAnswer p q)

@@ -30,10 +30,10 @@ refused-leaves (written bs) (NoRoom n) d e q = never (cc)
 refused-leaves (written bs) (BadPlace p) d e q = never (cc)
 
 -- what is written is the spelling, and it fits
-pub written-fits : (room : ℕ) (s : List ℕ) (p : Parts) (r : Wrote) (n : ℕ) → wroteOutcome r ≡ outcome (writeBy room s p) → r ≡ Written n
+pub written-fits : (room : ℕ) (s : List ℕ) (p : Parts) {r : Wrote} {n : ℕ} → wroteOutcome r ≡ outcome (writeBy room s p) → r ≡ Written n
     → (writeBy room s p ≡ written (spelledBy s p)) × (length (spelledBy s p) ≤ room)
 unfolding writeBy unless outcome
-written-fits room s p r n e q = placed (misplacedBy s p) (sym (ap wroteOutcome q) ∙ e)
+written-fits room s p {r} {n} e q = placed (misplacedBy s p) (sym (ap wroteOutcome q) ∙ e)
   where
     bs : List ℕ
     bs = spelledBy s p

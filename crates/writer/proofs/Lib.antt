@@ -1,8 +1,8 @@
 pub mod Stores
 pub mod Sizes
 pub mod Ids
-pub mod Signs
 pub mod Fitting
+pub mod Signs
 pub mod Splitting
 pub mod Judging
 pub mod Unique

@@ -1,15 +1,16 @@
 -- The bits of a signed number, over the width: those of a negative x are what -(x + 1) leaves of the largest number. Assumes nothing.
-use mathlib.Core.Path.{_≡_, refl, sym, ap, _∙_}
-use mathlib.Core.Bool.{Bool, true, false}
 use Prim.Native.Nat.{ℕ, zero, suc, _-_, _^_, _≤_, _<_}
 use native.Mathlib.Nat.{zero-add}
 use native.Mathlib.Omega.{arith}
+use mathlib.Core.Path.{_≡_, refl, sym, ap, _∙_}
+use mathlib.Core.Bool.{Bool, true, false}
 use lib.IntN.{ℤ, pos, negsuc, negℤ, _+ℤ_, _-ℤ_}
 use lib.Signed.{ltZ, mag}
 use borrow.Author.Tests.{lt-ltb, ltb-true}
 use mir.Syntax.{Width}
 use mir.Val.{SFits, ofZ, toZ, hbits}
 use mir.ValLaws.{toZ-ofZ}
+use Rattle.writer.proofs.Fitting.{never}
 
 plus-one : (n : ℕ) → negsuc n +ℤ pos 1 ≡ negℤ (pos n)
 plus-one zero = refl
@@ -23,49 +24,55 @@ mag-neg : (n : ℕ) → mag (negℤ (pos n)) ≤ n
 mag-neg zero = omega arith
 mag-neg (suc n) = omega arith
 
-negative : (z : ℤ) → ltZ z (pos 0) ≡ true → (n : ℕ) × (z ≡ negsuc n)
-negative (pos m) h = absurd (let l = ltb-true m 0 h in omega arith)
-negative (negsuc m) h = (m, refl)
+-- x + 1 and -(x + 1), as the code has them
+abbrev pub more : Width → ℤ → ℤ
+more w x = toZ w (ofZ w x) +ℤ pos 1
 
-module _ (w : Width) (x : ℤ) (s : SFits w x) (h : ltZ (toZ w (ofZ w x)) (pos 0) ≡ true) where
-  back : toZ w (ofZ w x) ≡ x
-  back = toZ-ofZ w x s
+abbrev pub less : Width → ℤ → ℤ
+less w x = pos 0 -ℤ toZ w (ofZ w (more w x))
 
-  -- x is -(n + 1)
+-- x is -(n + 1)
+pub record Negative (w : Width) (x : ℤ) : Type 0 where
   pub n : ℕ
-  n = negative x (rw back at h) .0
-
-  is : x ≡ negsuc n
-  unfolding n
-  is = negative x (rw back at h) .1
-
   pub below : n < 2 ^ hbits w
-  below = rw is at (s .sfits)
+  pub more-fits : SFits w (more w x)
+  pub less-fits : SFits w (less w x)
+  pub shown : toZ w (ofZ w (less w x)) ≡ pos n
+  pub bits : ofZ w x ≡ ofZ w (negsuc n)
 
-  abbrev more : ℤ
-  more = toZ w (ofZ w x) +ℤ pos 1
+below-zero : (w : Width) (n : ℕ) → SFits w (negsuc n) → Negative w (negsuc n)
+below-zero w n s =
+    let below : n < 2 ^ hbits w = s .sfits in
+    let more-is : more w (negsuc n) ≡ negℤ (pos n) = ap (λ (z : ℤ). z +ℤ pos 1) (toZ-ofZ w (negsuc n) s) ∙ plus-one n in
+    let more-fits : SFits w (more w (negsuc n)) = rw more-is (record { sfits = omega (arith, mag-neg n) }) in
+    let less-is : less w (negsuc n) ≡ pos n = ap (λ (z : ℤ). pos 0 -ℤ z) (toZ-ofZ w (more w (negsuc n)) more-fits ∙ more-is) ∙ minus-neg n in
+    let less-fits : SFits w (less w (negsuc n)) = rw less-is (record { sfits = below }) in
+    record {
+      n = n;
+      below = below;
+      more-fits = more-fits;
+      less-fits = less-fits;
+      shown = toZ-ofZ w (less w (negsuc n)) less-fits ∙ less-is;
+      bits = refl;
+    }
 
-  more-is : more ≡ negℤ (pos n)
-  more-is = ap (λ (z : ℤ). z +ℤ pos 1) (back ∙ is) ∙ plus-one n
+pub negative : {w : Width} {x : ℤ} → SFits w x → ltZ (toZ w (ofZ w x)) (pos 0) ≡ true → Negative w x
+negative {w} {x} s h = go x s (rw (toZ-ofZ w x s) at h)
+  where
+    go : (x : ℤ) → SFits w x → ltZ x (pos 0) ≡ true → Negative w x
+    go (pos m) s h = absurd (let l = ltb-true m 0 h in omega arith)
+    go (negsuc n) s h = below-zero w n s
 
-  pub more-fits : SFits w more
-  more-fits = rw more-is (record { sfits = omega (arith, mag-neg n, below) })
+-- x is n
+pub record Positive (w : Width) (x : ℤ) : Type 0 where
+  pub n : ℕ
+  pub below : n < 2 ^ hbits w
+  pub is : x ≡ pos n
+  pub shown : toZ w (ofZ w x) ≡ pos n
 
-  abbrev less : ℤ
-  less = pos 0 -ℤ toZ w (ofZ w more)
-
-  less-is : less ≡ pos n
-  less-is = ap (λ (z : ℤ). pos 0 -ℤ z) (toZ-ofZ w more more-fits ∙ more-is) ∙ minus-neg n
-
-  pub less-fits : SFits w less
-  less-fits = rw less-is (record { sfits = below })
-
-  pub less-shown : toZ w (ofZ w less) ≡ pos n
-  less-shown = toZ-ofZ w less less-fits ∙ less-is
-
-  pub bits-are : ofZ w x ≡ ofZ w (negsuc n)
-  bits-are = ap (ofZ w) is
-
-pub positive : (w : Width) (x : ℤ) → SFits w x → ltZ (toZ w (ofZ w x)) (pos 0) ≡ false → (n : ℕ) × (x ≡ pos n) × (toZ w (ofZ w x) ≡ pos n)
-positive w (pos m) s h = (m, refl, toZ-ofZ w (pos m) s)
-positive w (negsuc m) s h = let z : _≡_ {A = Bool} true false = (ap (λ (y : ℤ). ltZ y (pos 0)) (sym (toZ-ofZ w (negsuc m) s)) ∙ h) in absurd (let q : _≡_ {A = ℕ} 0 1 = cc in omega arith)
+pub positive : {w : Width} {x : ℤ} → SFits w x → ltZ (toZ w (ofZ w x)) (pos 0) ≡ false → Positive w x
+positive {w} {x} s h = go x s (rw (toZ-ofZ w x s) at h)
+  where
+    go : (x : ℤ) → SFits w x → ltZ x (pos 0) ≡ false → Positive w x
+    go (pos n) s h = record { n = n; below = s .sfits; is = refl; shown = toZ-ofZ w (pos n) s }
+    go (negsuc n) s h = never (cc)

@@ -7,7 +7,6 @@ use Rattle.form.specs.Values as F
 use Rattle.form.specs.Table.{after, orPlain, find, entries, table}
 use Rattle.form.specs.Fast.{front, over, stepBy}
 use Rattle.form.proofs.Lookups.{unquoted-at, lookup1-at, lookup2-at, lookup3-at, lookup4-at, range-from, compact-at, negated-at, plain-below, plain-above}
-use Rattle.lexeme.specs.Kinds.{kindNumber}
 use Rattle.lexeme.specs.declared.TokenKind.the-variants.{Open, Close, Equal, U32, U64, I32, Bool, Quoted, Unquoted, F32, F64, I64}
 use Rattle.fast.proofs.Laws.{at-most-7, narrow, Ready, copy-arm, lookup-arm, compact-arm, negated-arm, text-arm, alone-arm, zeros-held, id-arm, arm-by}
 use borrow.Author.Needs.{needs}
@@ -91,91 +90,91 @@ named-requires : tie.Need-named-requires
 named-requires c κs = search needs
 
 returns : tie.Need-returns
-unfolding after orPlain find entries table F.kind kindNumber front over
+unfolding after orPlain find entries table F.kind front over
 returns c =
     let a = c .before .before .before in
     let r : Ready (a .args .window .now) (a .args .held) = record { bytes = c .before .before .shared-slice-known .given; long = a .pre .0; eight = search needs } in
     arm-by (a .args .window .now) (a .args .held) (a .args .id .0) (c .alone .ensures) (ap after (c .before .match .keys1)) (alone-arm r F.Equal Equal (a .args .held) refl refl)
 
 returns-2 : tie.Need-returns-2
-unfolding after orPlain find entries table F.kind kindNumber front over
+unfolding after orPlain find entries table F.kind front over
 returns-2 c =
     let a = c .before .before .before in
     let r : Ready (a .args .window .now) (a .args .held) = record { bytes = c .before .before .shared-slice-known .given; long = a .pre .0; eight = search needs } in
     arm-by (a .args .window .now) (a .args .held) (a .args .id .0) (c .alone2 .ensures) (ap after (c .before .match .keys2)) (alone-arm r F.Open Open (a .args .held) refl refl)
 
 returns-3 : tie.Need-returns-3
-unfolding after orPlain find entries table F.kind kindNumber front over
+unfolding after orPlain find entries table F.kind front over
 returns-3 c =
     let a = c .before .before .before in
     let r : Ready (a .args .window .now) (a .args .held) = record { bytes = c .before .before .shared-slice-known .given; long = a .pre .0; eight = search needs } in
     arm-by (a .args .window .now) (a .args .held) (a .args .id .0) (c .alone3 .ensures) (ap after (c .before .match .keys3)) (alone-arm r F.Close Close (a .args .held) refl refl)
 
 returns-4 : tie.Need-returns-4
-unfolding after orPlain find entries table F.kind kindNumber front
+unfolding after orPlain find entries table F.kind front
 returns-4 c =
     let a = c .before .before .before in
     let r : Ready (a .args .window .now) (a .args .held) = record { bytes = c .before .before .shared-slice-known .given; long = a .pre .0; eight = search needs } in
     arm-by (a .args .window .now) (a .args .held) (a .args .id .0) (c .copy .ensures) (ap after (c .before .match .keys4)) (copy-arm r 4 F.U32 U32 (lit≤ tt) (λ _. refl) (λ _. refl))
 
 returns-5 : tie.Need-returns-5
-unfolding after orPlain find entries table F.kind kindNumber front
+unfolding after orPlain find entries table F.kind front
 returns-5 c =
     let a = c .before .before .before in
     let r : Ready (a .args .window .now) (a .args .held) = record { bytes = c .before .before .shared-slice-known .given; long = a .pre .0; eight = search needs } in
     arm-by (a .args .window .now) (a .args .held) (a .args .id .0) (c .copy2 .ensures) (ap after (c .before .match .keys5)) (copy-arm r 4 F.signed32 I32 (lit≤ tt) (λ _. refl) (λ _. refl))
 
 returns-6 : tie.Need-returns-6
-unfolding after orPlain find entries table F.kind kindNumber front
+unfolding after orPlain find entries table F.kind front
 returns-6 c =
     let a = c .before .before .before in
     let r : Ready (a .args .window .now) (a .args .held) = record { bytes = c .before .before .shared-slice-known .given; long = a .pre .0; eight = search needs } in
     arm-by (a .args .window .now) (a .args .held) (a .args .id .0) (c .copy3 .ensures) (ap after (c .before .match .keys6)) (copy-arm r 4 F.F32 F32 (lit≤ tt) (λ _. refl) (λ _. refl))
 
 returns-7 : tie.Need-returns-7
-unfolding after orPlain find entries table F.kind kindNumber front
+unfolding after orPlain find entries table F.kind front
 returns-7 c =
     let a = c .before .before .before in
     let r : Ready (a .args .window .now) (a .args .held) = record { bytes = c .before .before .shared-slice-known .given; long = a .pre .0; eight = search needs } in
     arm-by (a .args .window .now) (a .args .held) (a .args .id .0) (c .copy4 .ensures) (ap after (c .before .match .keys7)) (copy-arm r 8 F.U64 U64 (lit≤ tt) (λ _. refl) (λ _. refl))
 
 returns-8 : tie.Need-returns-8
-unfolding after orPlain find entries table F.kind kindNumber front
+unfolding after orPlain find entries table F.kind front
 returns-8 c =
     let a = c .before .before .before in
     let r : Ready (a .args .window .now) (a .args .held) = record { bytes = c .before .before .shared-slice-known .given; long = a .pre .0; eight = search needs } in
     arm-by (a .args .window .now) (a .args .held) (a .args .id .0) (c .copy5 .ensures) (ap after (c .before .match .keys8)) (copy-arm r 8 F.signed64 I64 (lit≤ tt) (λ _. refl) (λ _. refl))
 
 returns-9 : tie.Need-returns-9
-unfolding after orPlain find entries table F.kind kindNumber front
+unfolding after orPlain find entries table F.kind front
 returns-9 c =
     let a = c .before .before .before in
     let r : Ready (a .args .window .now) (a .args .held) = record { bytes = c .before .before .shared-slice-known .given; long = a .pre .0; eight = search needs } in
     arm-by (a .args .window .now) (a .args .held) (a .args .id .0) (c .copy6 .ensures) (ap after (c .before .match .keys9)) (copy-arm r 8 F.F64 F64 (lit≤ tt) (λ _. refl) (λ _. refl))
 
 returns-10 : tie.Need-returns-10
-unfolding after orPlain find entries table F.kind kindNumber front
+unfolding after orPlain find entries table F.kind front
 returns-10 c =
     let a = c .before .before .before in
     let r : Ready (a .args .window .now) (a .args .held) = record { bytes = c .before .before .shared-slice-known .given; long = a .pre .0; eight = search needs } in
     arm-by (a .args .window .now) (a .args .held) (a .args .id .0) (c .copy7 .ensures) (ap after (c .before .match .keys10)) (copy-arm r 1 F.nonzero Bool (lit≤ tt) (λ _. refl) (λ _. refl))
 
 returns-11 : tie.Need-returns-11
-unfolding after orPlain find entries table F.kind kindNumber front
+unfolding after orPlain find entries table F.kind front
 returns-11 c =
     let a = c .before .before .before in
     let r : Ready (a .args .window .now) (a .args .held) = record { bytes = c .before .before .shared-slice-known .given; long = a .pre .0; eight = search needs } in
     arm-by (a .args .window .now) (a .args .held) (a .args .id .0) (c .string .ensures) (ap after (c .before .match .keys11)) (text-arm r F.Quoted Quoted refl)
 
 returns-12 : tie.Need-returns-12
-unfolding F.kind kindNumber
+unfolding F.kind
 returns-12 c =
     let a = c .before .before .before in
     let r : Ready (a .args .window .now) (a .args .held) = record { bytes = c .before .before .shared-slice-known .given; long = a .pre .0; eight = search needs } in
     arm-by (a .args .window .now) (a .args .held) (a .args .id .0) (c .string2 .ensures) (unquoted-at (c .before .match .keys12)) (text-arm r F.Unquoted Unquoted refl)
 
 returns-13 : tie.Need-returns-13
-unfolding after orPlain find entries table F.kind kindNumber front
+unfolding after orPlain find entries table F.kind front
 returns-13 c =
     let a = c .before .before .before in
     let r : Ready (a .args .window .now) (a .args .held) = record { bytes = c .before .before .shared-slice-known .given; long = a .pre .0; eight = search needs } in

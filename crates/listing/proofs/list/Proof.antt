@@ -7,8 +7,9 @@ use lib.ListN.{length}
 use Rattle.form.specs.Writing.{wrote, outcome, leaves}
 use Rattle.form.specs.Listing.{listing}
 use Rattle.form.proofs.LittleEndian.{bytes-all}
+use Rattle.form.proofs.Runs.{sets-front}
 use Rattle.text.specs.Put.{top}
-use Rattle.listing.proofs.Answer.{none-left, sets-front, too-long, measured, fits, lacks}
+use Rattle.listing.proofs.Answer.{none-left, too-long, measured, fits, lacks}
 use borrow.Author.Needs.{needs}
 use Rattle.listing.proofs.list.Statement.{statement}
 use Rattle.listing.proofs.list.Tie as tie

@@ -75,4 +75,18 @@ returns-4 c =
     }
 
 pub normalise-spec : {M : Type 1} → statement M
-normalise-spec = tie.close (tie.spec returns slice-relend-prefix-pass slice-aggregate-pass pass-requires enum-known-measured same-length returns-2 same-length-2 returns-3 pass-requires-2 same-length-3 returns-4)
+normalise-spec =
+    tie.close
+    (tie.spec
+    returns
+    slice-relend-prefix-pass
+    slice-aggregate-pass
+    pass-requires
+    enum-known-measured
+    same-length
+    returns-2
+    same-length-2
+    returns-3
+    pass-requires-2
+    same-length-3
+    returns-4)

@@ -1,18 +1,13 @@
 -- `normaliser::pass` meets its contract. The invariant is `Going`: what is left of the save, written to the
 -- output as it is, gives what the contract says. Assumes nothing.
 use borrow.Author.Needs.{needs}
-use mathlib.Core.Path.{refl, sym, ap, _∙_}
+use mathlib.Core.Path.{refl}
 use Prim.Native.Nat.{_-_}
 use native.Mathlib.Omega.{arith}
-use denote.Ref.{now}
 use lib.ListN.{length}
-use Rattle.form.proofs.LittleEndian.{bytes-all}
-use Rattle.payload.specs.Answers.{faultOf}
 use Rattle.payload.proofs.Laws.{elseOf}
 use Rattle.token.specs.Tokens.{tokenAnswer}
-use Rattle.writer.specs.Writes.{wroteOutcome}
-use Rattle.normaliser.proofs.Steps.{read-got, read-refused}
-use Rattle.normaliser.proofs.Passing.{Going, going-start, going-written, going-counted, going-wide, refused-wide, going-end, going-refused, tally-cut}
+use Rattle.normaliser.proofs.Passing.{Going, going-start, going-end, next-refused, next-read, next-written, next-counted, next-wide}
 use Rattle.normaliser.proofs.pass.Statement.{statement}
 use Rattle.normaliser.proofs.pass.Tie as tie
 
@@ -46,11 +41,8 @@ same-length c = c .before .before .before .before .before .before .loop .inv .sa
 returns : tie.Need-returns Inv-loop μ-loop
 returns c =
     let l = c .before .before .before .before .before .before .loop in
-    let s = now (c .before .before .before .before .before .before .before .before .before .args .bytes) in
     let e = elseOf tokenAnswer (c .before .before .before .before .read-token .ensures) (c .before .before .enum-told .given .1) (c .before .refusal .ensures) refl in
-    going-refused (l .inv) (l .out)
-    (tally-cut (l .need) (read-refused s (bytes-all s (c .before .before .before .before .before .before .before .before .shared-slice-known .given)) (l .i) (c .before .before .before .before .before .loop-test .taken) (faultOf (c .before .refusal .result)) e))
-    (c .refused .ensures)
+    next-refused (l .inv) (c .before .before .before .before .before .before .before .before .shared-slice-known .given) (c .before .before .before .before .before .loop-test .taken) (l .out) e (c .refused .ensures)
 
 sub-write : tie.Need-sub-write Inv-loop μ-loop
 sub-write c = omega (arith, c .before .before .before .before .before .loop .inv .inside)
@@ -69,16 +61,14 @@ enum-known-n c = search needs
 
 add-at : tie.Need-add-at Inv-loop μ-loop
 add-at c =
-    let r = read-got (now (c .before .before .before .before .before .before .before .before .before .before .before .before .before .before .before .args .bytes)) (c .before .before .before .before .before .before .before .before .before .before .before .before .before .before .shared-slice-known .given) (c .before .before .before .before .before .before .before .before .before .before .before .before .loop .i) (c .before .before .before .before .before .before .before .before .before .before .before .loop-test .taken) (c .before .before .before .before .before .before .before .before .before .before .read-token .ensures) (c .before .before .before .before .before .before .before .before .r .given .1) in
-    let x = c .before .before .before .before .before .write .ensures in
-    let g = going-written (c .before .before .before .before .before .before .before .before .before .before .before .before .loop .inv) r (c .before .before .before .before .before .write .last .1 .1 .0) (c .before .n .given .0 .0) (sym (ap wroteOutcome (c .before .n .given .1)) ∙ x .answer) (x .output) in
+    let k = c .before .before .before .before .before .before .before in
+    let g = next-written (k .before .before .before .before .before .loop .inv) (k .before .before .before .before .before .before .before .shared-slice-known .given) (k .before .before .before .before .loop-test .taken) (k .before .before .before .read-token .ensures) (k .before .r .given .1) (c .before .before .before .before .before .write .ensures) (c .before .n .given .1) in
     omega (arith, g .inside, g .same)
 
 add-need : tie.Need-add-need Inv-loop μ-loop
 add-need c =
-    let r = read-got (now (c .before .before .before .before .before .before .before .before .before .before .before .before .before .before .before .args .bytes)) (c .before .before .before .before .before .before .before .before .before .before .before .before .before .before .shared-slice-known .given) (c .before .before .before .before .before .before .before .before .before .before .before .before .loop .i) (c .before .before .before .before .before .before .before .before .before .before .before .loop-test .taken) (c .before .before .before .before .before .before .before .before .before .before .read-token .ensures) (c .before .before .before .before .before .before .before .before .r .given .1) in
-    let x = c .before .before .before .before .before .write .ensures in
-    let g = going-written (c .before .before .before .before .before .before .before .before .before .before .before .before .loop .inv) r (c .before .before .before .before .before .write .last .1 .1 .0) (c .before .n .given .0 .0) (sym (ap wroteOutcome (c .before .n .given .1)) ∙ x .answer) (x .output) in
+    let k = c .before .before .before .before .before .before .before in
+    let g = next-written (k .before .before .before .before .before .loop .inv) (k .before .before .before .before .before .before .before .shared-slice-known .given) (k .before .before .before .before .loop-test .taken) (k .before .before .before .read-token .ensures) (k .before .r .given .1) (c .before .before .before .before .before .write .ensures) (c .before .n .given .1) in
     omega (arith, g .small, g .there)
 
 enum-known-n-2 : tie.Need-enum-known-n-2 Inv-loop μ-loop
@@ -86,9 +76,8 @@ enum-known-n-2 c = search needs
 
 add-need-2 : tie.Need-add-need-2 Inv-loop μ-loop
 add-need-2 c =
-    let r = read-got (now (c .before .before .before .before .before .before .before .before .before .before .before .before .before .before .before .args .bytes)) (c .before .before .before .before .before .before .before .before .before .before .before .before .before .before .shared-slice-known .given) (c .before .before .before .before .before .before .before .before .before .before .before .before .loop .i) (c .before .before .before .before .before .before .before .before .before .before .before .loop-test .taken) (c .before .before .before .before .before .before .before .before .before .before .read-token .ensures) (c .before .before .before .before .before .before .before .before .r .given .1) in
-    let x = c .before .before .before .before .before .write .ensures in
-    let g = going-counted (c .before .before .before .before .before .before .before .before .before .before .before .before .loop .inv) r (c .before .before .before .before .before .write .last .1 .1 .0) (c .before .n2 .given .0 .0) (sym (ap wroteOutcome (c .before .n2 .given .1)) ∙ x .answer) (x .output) in
+    let k = c .before .before .before .before .before .before .before in
+    let g = next-counted (k .before .before .before .before .before .loop .inv) (k .before .before .before .before .before .before .before .shared-slice-known .given) (k .before .before .before .before .loop-test .taken) (k .before .before .before .read-token .ensures) (k .before .r .given .1) (c .before .before .before .before .before .write .ensures) (c .before .n2 .given .1) in
     omega (arith, g .small, g .there)
 
 same-length-2 : tie.Need-same-length-2 Inv-loop μ-loop
@@ -96,31 +85,30 @@ same-length-2 c = search needs
 
 returns-2 : tie.Need-returns-2 Inv-loop μ-loop
 returns-2 c =
-    let r = read-got (now (c .before .before .before .before .before .before .before .before .before .before .before .before .before .args .bytes)) (c .before .before .before .before .before .before .before .before .before .before .before .before .shared-slice-known .given) (c .before .before .before .before .before .before .before .before .before .before .loop .i) (c .before .before .before .before .before .before .before .before .before .loop-test .taken) (c .before .before .before .before .before .before .before .before .read-token .ensures) (c .before .before .before .before .before .before .r .given .1) in
-    let g = c .before .before .before .before .before .before .before .before .before .before .loop .inv in
-    going-refused g _ (going-wide g r (refused-wide g r (c .before .before .before .write .result) (c .before .before .before .write .ensures .answer) (c .match2 .keys3))) refl
+    let k = c .before .before .before .before .before in
+    next-wide (k .before .before .before .before .before .loop .inv) (k .before .before .before .before .before .before .before .shared-slice-known .given) (k .before .before .before .before .loop-test .taken) (k .before .before .before .read-token .ensures) (k .before .r .given .1) (c .before .before .before .write .result) (c .before .before .before .write .ensures) (c .match2 .keys3) _
 
 loop-less : tie.Need-loop-less Inv-loop μ-loop
 loop-less c =
-    let r = read-got (now (c .before .before .before .before .before .before .before .before .before .before .before .before .before .before .before .args .bytes)) (c .before .before .before .before .before .before .before .before .before .before .before .before .before .before .shared-slice-known .given) (c .before .before .before .before .before .before .before .before .before .before .before .before .loop .i) (c .before .before .before .before .before .before .before .before .before .before .before .loop-test .taken) (c .before .before .before .before .before .before .before .before .before .before .read-token .ensures) (c .before .before .before .before .before .before .before .before .r .given .1) in
+    let k = c .before .before .before .before .before .before .before in
+    let r = next-read (k .before .before .before .before .before .loop .inv) (k .before .before .before .before .before .before .before .shared-slice-known .given) (k .before .before .before .before .loop-test .taken) (k .before .before .before .read-token .ensures) (k .before .r .given .1) in
     omega (arith, r .some, r .there)
 
 loop-again : tie.Need-loop-again Inv-loop μ-loop
 loop-again c =
-    let r = read-got (now (c .before .before .before .before .before .before .before .before .before .before .before .before .before .before .before .args .bytes)) (c .before .before .before .before .before .before .before .before .before .before .before .before .before .before .shared-slice-known .given) (c .before .before .before .before .before .before .before .before .before .before .before .before .loop .i) (c .before .before .before .before .before .before .before .before .before .before .before .loop-test .taken) (c .before .before .before .before .before .before .before .before .before .before .read-token .ensures) (c .before .before .before .before .before .before .before .before .r .given .1) in
-    let x = c .before .before .before .before .before .write .ensures in
-    going-written (c .before .before .before .before .before .before .before .before .before .before .before .before .loop .inv) r (c .before .before .before .before .before .write .last .1 .1 .0) (c .before .n .given .0 .0) (sym (ap wroteOutcome (c .before .n .given .1)) ∙ x .answer) (x .output)
+    let k = c .before .before .before .before .before .before .before in
+    next-written (k .before .before .before .before .before .loop .inv) (k .before .before .before .before .before .before .before .shared-slice-known .given) (k .before .before .before .before .loop-test .taken) (k .before .before .before .read-token .ensures) (k .before .r .given .1) (c .before .before .before .before .before .write .ensures) (c .before .n .given .1)
 
 loop-less-2 : tie.Need-loop-less-2 Inv-loop μ-loop
 loop-less-2 c =
-    let r = read-got (now (c .before .before .before .before .before .before .before .before .before .before .before .before .before .before .before .args .bytes)) (c .before .before .before .before .before .before .before .before .before .before .before .before .before .before .shared-slice-known .given) (c .before .before .before .before .before .before .before .before .before .before .before .before .loop .i) (c .before .before .before .before .before .before .before .before .before .before .before .loop-test .taken) (c .before .before .before .before .before .before .before .before .before .before .read-token .ensures) (c .before .before .before .before .before .before .before .before .r .given .1) in
+    let k = c .before .before .before .before .before .before .before in
+    let r = next-read (k .before .before .before .before .before .loop .inv) (k .before .before .before .before .before .before .before .shared-slice-known .given) (k .before .before .before .before .loop-test .taken) (k .before .before .before .read-token .ensures) (k .before .r .given .1) in
     omega (arith, r .some, r .there)
 
 loop-again-2 : tie.Need-loop-again-2 Inv-loop μ-loop
 loop-again-2 c =
-    let r = read-got (now (c .before .before .before .before .before .before .before .before .before .before .before .before .before .before .before .args .bytes)) (c .before .before .before .before .before .before .before .before .before .before .before .before .before .before .shared-slice-known .given) (c .before .before .before .before .before .before .before .before .before .before .before .before .loop .i) (c .before .before .before .before .before .before .before .before .before .before .before .loop-test .taken) (c .before .before .before .before .before .before .before .before .before .before .read-token .ensures) (c .before .before .before .before .before .before .before .before .r .given .1) in
-    let x = c .before .before .before .before .before .write .ensures in
-    going-counted (c .before .before .before .before .before .before .before .before .before .before .before .before .loop .inv) r (c .before .before .before .before .before .write .last .1 .1 .0) (c .before .n2 .given .0 .0) (sym (ap wroteOutcome (c .before .n2 .given .1)) ∙ x .answer) (x .output)
+    let k = c .before .before .before .before .before .before .before in
+    next-counted (k .before .before .before .before .before .loop .inv) (k .before .before .before .before .before .before .before .shared-slice-known .given) (k .before .before .before .before .loop-test .taken) (k .before .before .before .read-token .ensures) (k .before .r .given .1) (c .before .before .before .before .before .write .ensures) (c .before .n2 .given .1)
 
 same-length-3 : tie.Need-same-length-3 Inv-loop μ-loop
 same-length-3 c = c .before .loop .inv .same
@@ -129,4 +117,33 @@ returns-3 : tie.Need-returns-3 Inv-loop μ-loop
 returns-3 c = going-end (c .before .loop .inv) (c .loop-test .left)
 
 pub pass-spec : {M : Type 1} → statement M
-pass-spec = tie.close (tie.spec Inv-loop μ-loop loop-holds read-token-requires enum-known-r enum-told refusal-requires refused-requires same-length returns sub-write part-write-start part-write-end write-requires enum-known-n add-at add-need enum-known-n-2 add-need-2 same-length-2 returns-2 loop-less loop-again loop-less-2 loop-again-2 same-length-3 returns-3)
+pass-spec =
+    tie.close
+    (tie.spec
+    Inv-loop
+    μ-loop
+    loop-holds
+    read-token-requires
+    enum-known-r
+    enum-told
+    refusal-requires
+    refused-requires
+    same-length
+    returns
+    sub-write
+    part-write-start
+    part-write-end
+    write-requires
+    enum-known-n
+    add-at
+    add-need
+    enum-known-n-2
+    add-need-2
+    same-length-2
+    returns-2
+    loop-less
+    loop-again
+    loop-less-2
+    loop-again-2
+    same-length-3
+    returns-3)

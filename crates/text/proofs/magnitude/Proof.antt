@@ -1,7 +1,8 @@
--- `text::magnitude` meets its contract. By the laws of a negative number in Sign. Assumes nothing.
+-- `text::magnitude` meets its contract. By the laws of signed numbers. Assumes nothing.
 use native.Mathlib.Omega.{arith}
 use mir.Syntax.{w64}
-use Rattle.text.proofs.Sign.{below, more-fits, less-fits, less-is, size-is, positive}
+use Rattle.form.proofs.Signs.{below, more-fits, less-fits, less-shown, positive}
+use Rattle.text.proofs.Sign.{size-is}
 use borrow.Author.Needs.{needs}
 use Rattle.text.proofs.magnitude.Statement.{statement}
 use Rattle.text.proofs.magnitude.Tie as tie
@@ -15,12 +16,12 @@ sub-m c = less-fits w64 (c .before .args .x) (c .before .fits .x) (c .if1 .taken
 cast-m : tie.Need-cast-m
 cast-m c =
     let b = below w64 (c .before .args .x) (c .before .fits .x) (c .if1 .taken) in
-    rw (less-is w64 (c .before .args .x) (c .before .fits .x) (c .if1 .taken)) (tt, record { fits = omega arith })
+    rw (less-shown w64 (c .before .args .x) (c .before .fits .x) (c .if1 .taken)) (tt, record { fits = omega arith })
 
 add-result : tie.Need-add-result
 add-result c =
     let b = below w64 (c .before .args .x) (c .before .fits .x) (c .if1 .taken) in
-    rw (less-is w64 (c .before .args .x) (c .before .fits .x) (c .if1 .taken)) (omega arith)
+    rw (less-shown w64 (c .before .args .x) (c .before .fits .x) (c .if1 .taken)) (omega arith)
 
 cast-result : tie.Need-cast-result
 cast-result c =
@@ -29,7 +30,7 @@ cast-result c =
     rw (p .2) (tt, record { fits = omega arith })
 
 returns : tie.Need-returns
-returns c = rw (less-is w64 (c .before .args .x) (c .before .fits .x) (c .if1 .taken)) (size-is w64 (c .before .args .x) (c .before .fits .x) (c .if1 .taken))
+returns c = rw (less-shown w64 (c .before .args .x) (c .before .fits .x) (c .if1 .taken)) (size-is (c .before .args .x) (c .before .fits .x) (c .if1 .taken))
 
 returns-2 : tie.Need-returns-2
 returns-2 c = search needs

@@ -110,4 +110,31 @@ returns-8 c =
     rw (c .before .before .before .before .p5 .given .1, taken)
 
 pub judge-spec : {M : Type 1} → statement M
-judge-spec = tie.close (tie.spec enum-known-p cast-fit add-fit fit-requires enum-known-p-2 judge-text-requires enum-known-p-3 returns fit-requires-2 enum-known-p-4 enum-told fit-requires-3 enum-told-2 fit-requires-4 enum-known-p-5 new-requires is-id-requires fit-requires-5 returns-2 returns-3 returns-4 returns-5 returns-6 returns-7 returns-8)
+judge-spec =
+    tie.close
+    (tie.spec
+    enum-known-p
+    cast-fit
+    add-fit
+    fit-requires
+    enum-known-p-2
+    judge-text-requires
+    enum-known-p-3
+    returns
+    fit-requires-2
+    enum-known-p-4
+    enum-told
+    fit-requires-3
+    enum-told-2
+    fit-requires-4
+    enum-known-p-5
+    new-requires
+    is-id-requires
+    fit-requires-5
+    returns-2
+    returns-3
+    returns-4
+    returns-5
+    returns-6
+    returns-7
+    returns-8)

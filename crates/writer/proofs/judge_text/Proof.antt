@@ -54,4 +54,14 @@ returns-3 c =
     (c .fit .ensures _ (text-size (a .id .0) (partOf s (a .t)) ∙ ap (λ n. 4 + n) (part-length s (a .t) q)))
 
 pub judge-text-spec : {M : Type 1} → statement M
-judge-text-spec = tie.close (tie.spec text-requires enum-known-place enum-told returns add-fit fit-requires returns-2 returns-3)
+judge-text-spec =
+    tie.close
+    (tie.spec
+    text-requires
+    enum-known-place
+    enum-told
+    returns
+    add-fit
+    fit-requires
+    returns-2
+    returns-3)

@@ -33,7 +33,7 @@ returns c =
 parts-requires : tie.Need-parts-requires
 parts-requires c κs =
     let a = c .before .before .before .before .before .before .before .args in
-    omega (arith, written-fits (length (now (a .out))) (now (a .bytes)) (c .before .before .before .before .split .result) (c .before .before .before .judge .result) (c .before .enum-told .given .0 .0) (c .before .before .before .judge .ensures) (c .before .enum-told .given .1) .1)
+    omega (arith, written-fits (length (now (a .out))) (now (a .bytes)) (c .before .before .before .before .split .result) (c .before .before .before .judge .ensures) (c .before .enum-told .given .1) .1)
 
 same-length : tie.Need-same-length
 same-length c = search needs
@@ -41,13 +41,16 @@ same-length c = search needs
 returns-2 : tie.Need-returns-2
 unfolding leaves
 returns-2 c =
-    let a = c .before .before .before .before .before .before .before .before .before .before .args in
-    let w = c .before .before .before .before .before .before .before .split .ensures (length (now (a .out))) (now (a .bytes)) in
-    let f = written-fits (length (now (a .out))) (now (a .bytes)) (c .before .before .before .before .before .before .before .split .result) (c .before .before .before .before .before .before .judge .result) (c .before .before .before .before .enum-told .given .0 .0) (c .before .before .before .before .before .before .judge .ensures) (c .before .before .before .before .enum-told .given .1) in
+    let k = c .before .before .before .before .before .before in
+    let a = k .before .before .before .before .args in
+    let w = k .before .split .ensures (length (now (a .out))) (now (a .bytes)) in
+    let f = written-fits (length (now (a .out))) (now (a .bytes)) (k .before .split .result) (k .judge .ensures) (c .before .before .before .before .enum-told .given .1) in
     record {
-      answer = c .before .before .before .before .before .before .judge .ensures ∙ ap outcome w;
+      answer = k .judge .ensures ∙ ap outcome w;
       output = put-front (f .1) (c .before .before .parts .ensures) ∙ ap (λ o. leaves o (now (a .out))) (sym (f .0) ∙ w);
     }
 
 pub write-spec : {M : Type 1} → statement M
-write-spec = tie.close (tie.spec split-requires judge-requires enum-told returns parts-requires same-length returns-2)
+write-spec =
+    tie.close
+    (tie.spec split-requires judge-requires enum-told returns parts-requires same-length returns-2)

@@ -120,4 +120,41 @@ returns-15 : tie.Need-returns-15
 returns-15 c = rw (c .before .token12 .given .1) (splits (T.Id _))
 
 pub split-spec : {M : Type 1} → statement M
-split-spec = tie.close (tie.spec enum-told enum-told-2 enum-told-3 enum-known-token cast-t19 enum-known-token-2 enum-known-token-3 of-i32-requires enum-known-token-4 of-bool-requires enum-known-token-5 enum-known-token-6 enum-known-token-7 cast-t28 enum-known-token-8 enum-known-token-9 enum-known-token-10 of-i64-requires enum-known-token-11 enum-known-token-12 returns returns-2 returns-3 returns-4 returns-5 returns-6 returns-7 returns-8 returns-9 returns-10 returns-11 returns-12 returns-13 returns-14 returns-15)
+split-spec =
+    tie.close
+    (tie.spec
+    enum-told
+    enum-told-2
+    enum-told-3
+    enum-known-token
+    cast-t19
+    enum-known-token-2
+    enum-known-token-3
+    of-i32-requires
+    enum-known-token-4
+    of-bool-requires
+    enum-known-token-5
+    enum-known-token-6
+    enum-known-token-7
+    cast-t28
+    enum-known-token-8
+    enum-known-token-9
+    enum-known-token-10
+    of-i64-requires
+    enum-known-token-11
+    enum-known-token-12
+    returns
+    returns-2
+    returns-3
+    returns-4
+    returns-5
+    returns-6
+    returns-7
+    returns-8
+    returns-9
+    returns-10
+    returns-11
+    returns-12
+    returns-13
+    returns-14
+    returns-15)

@@ -37,4 +37,12 @@ returns : tie.Need-returns
 returns c = put-then (c .before .before .before .before .before .before .before .before .before .before .before .before .before .before .channel .ensures) (put-then (c .before .before .before .before .before .before .before .before .before .before .channel2 .ensures) (put-then (c .before .before .before .before .before .before .channel3 .ensures) (c .before .before .colour-end .ensures)))
 
 pub channels-spec : {M : Type 1} → statement M
-channels-spec = tie.close (tie.spec channel-requires channel-requires-2 channel-requires-3 colour-end-requires same-length returns)
+channels-spec =
+    tie.close
+    (tie.spec
+    channel-requires
+    channel-requires-2
+    channel-requires-3
+    colour-end-requires
+    same-length
+    returns)

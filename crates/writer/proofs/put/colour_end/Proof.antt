@@ -40,4 +40,15 @@ unfolding spelledAlpha
 returns-2 c = rw (c .before .before .before .before .before .before .before .before .before .a .given .1, close-is) (put-then (c .before .before .before .before .before .before .channel .ensures) (c .before .before .id2 .ensures))
 
 pub colour-end-spec : {M : Type 1} → statement M
-colour-end-spec = tie.close (tie.spec enum-told id-requires enum-known-a channel-requires id-requires-2 same-length returns same-length-2 returns-2)
+colour-end-spec =
+    tie.close
+    (tie.spec
+    enum-told
+    id-requires
+    enum-known-a
+    channel-requires
+    id-requires-2
+    same-length
+    returns
+    same-length-2
+    returns-2)

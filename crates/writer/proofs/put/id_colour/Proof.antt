@@ -31,4 +31,5 @@ returns : tie.Need-returns
 returns c = rw (colour-is, open-is) (put-then (c .before .before .before .before .before .before .before .before .before .before .id .ensures) (put-then (c .before .before .before .before .before .before .id2 .ensures) (c .before .before .channels .ensures)))
 
 pub id-colour-spec : {M : Type 1} → statement M
-id-colour-spec = tie.close (tie.spec id-requires id-requires-2 channels-requires same-length returns)
+id-colour-spec =
+    tie.close (tie.spec id-requires id-requires-2 channels-requires same-length returns)

@@ -53,4 +53,17 @@ returns c =
     }
 
 pub number-spec : {M : Type 1} → statement M
-number-spec = tie.close (tie.spec Inv-loop μ-loop loop-holds cast-out slice-write-out add-i sub-left loop-less loop-again same-length returns)
+number-spec =
+    tie.close
+    (tie.spec
+    Inv-loop
+    μ-loop
+    loop-holds
+    cast-out
+    slice-write-out
+    add-i
+    sub-left
+    loop-less
+    loop-again
+    same-length
+    returns)

@@ -101,4 +101,30 @@ unfolding spelledBy
 returns-5 c = rw (c .before .before .before .before .before .before .p5 .given .1, sym (c .before .before .before .new .ensures)) (c .before .before .id .ensures)
 
 pub parts-spec : {M : Type 1} → statement M
-parts-spec = tie.close (tie.spec enum-known-p cast-id-number id-number-requires enum-known-p-2 text-part-requires id-text-requires enum-known-p-3 cast-id-number-2 id-number-requires-2 enum-known-p-4 id-colour-requires enum-known-p-5 new-requires id-requires same-length returns same-length-2 returns-2 same-length-3 returns-3 same-length-4 returns-4 same-length-5 returns-5)
+parts-spec =
+    tie.close
+    (tie.spec
+    enum-known-p
+    cast-id-number
+    id-number-requires
+    enum-known-p-2
+    text-part-requires
+    id-text-requires
+    enum-known-p-3
+    cast-id-number-2
+    id-number-requires-2
+    enum-known-p-4
+    id-colour-requires
+    enum-known-p-5
+    new-requires
+    id-requires
+    same-length
+    returns
+    same-length-2
+    returns-2
+    same-length-3
+    returns-3
+    same-length-4
+    returns-4
+    same-length-5
+    returns-5)

@@ -1,0 +1,4 @@
+pub mod Laws
+pub mod Counts
+pub mod Signs
+pub mod Unique

@@ -1,0 +1,82 @@
+-- The bits of a signed number, over the width. Assumes nothing.
+use mathlib.Core.Path.{_≡_, refl, sym, ap, _∙_}
+use mathlib.Core.Bool.{Bool, true, false}
+use Prim.Native.Nat.{ℕ, zero, suc, _-_, _^_, _≤_, _<_}
+use native.Mathlib.Nat.{zero-add}
+use native.Mathlib.Omega.{arith}
+use lib.Dec.{T, leb}
+use lib.IntN.{ℤ, pos, negsuc, negℤ, _+ℤ_, _-ℤ_}
+use lib.Signed.{ltZ, mag}
+use borrow.Author.Tests.{lt-ltb, ltb-true}
+use mir.Syntax.{Width, w64}
+use mir.Val.{SFits, ofZ, toZ, hbits}
+use mir.ValLaws.{toZ-ofZ}
+use mir.Facts.{sfits-widen}
+
+plus-one : (n : ℕ) → negsuc n +ℤ pos 1 ≡ negℤ (pos n)
+plus-one zero = refl
+plus-one (suc n) = let e : suc (suc n) - 2 ≡ n = omega arith in rw (lt-ltb 1 (suc (suc n)) (omega arith)) (ap negsuc e)
+
+minus-neg : (n : ℕ) → pos 0 -ℤ negℤ (pos n) ≡ pos n
+minus-neg zero = refl
+minus-neg (suc n) = ap pos (zero-add (suc n))
+
+mag-neg : (n : ℕ) → mag (negℤ (pos n)) ≤ n
+mag-neg zero = omega arith
+mag-neg (suc n) = omega arith
+
+negative : (z : ℤ) → ltZ z (pos 0) ≡ true → (n : ℕ) × (z ≡ negsuc n)
+negative (pos m) h = absurd (let l = ltb-true m 0 h in omega arith)
+negative (negsuc m) h = (m, refl)
+
+module _ (w : Width) (x : ℤ) (s : SFits w x) (h : ltZ (toZ w (ofZ w x)) (pos 0) ≡ true) where
+  back : toZ w (ofZ w x) ≡ x
+  back = toZ-ofZ w x s
+
+  -- x is -(n + 1)
+  pub n : ℕ
+  n = negative x (rw back at h) .0
+
+  is : x ≡ negsuc n
+  unfolding n
+  is = negative x (rw back at h) .1
+
+  pub below : n < 2 ^ hbits w
+  below = rw is at (s .sfits)
+
+  abbrev more : ℤ
+  more = toZ w (ofZ w x) +ℤ pos 1
+
+  one : more ≡ negℤ (pos n)
+  one = ap (λ (z : ℤ). z +ℤ pos 1) (back ∙ is) ∙ plus-one n
+
+  pub more-fits : SFits w more
+  more-fits = rw one (record { sfits = omega (arith, mag-neg n, below) })
+
+  abbrev less : ℤ
+  less = pos 0 -ℤ toZ w (ofZ w more)
+
+  two : less ≡ pos n
+  two = ap (λ (z : ℤ). pos 0 -ℤ z) (toZ-ofZ w more more-fits ∙ one) ∙ minus-neg n
+
+  pub less-fits : SFits w less
+  less-fits = rw two (record { sfits = below })
+
+  pub three : toZ w (ofZ w less) ≡ pos n
+  three = toZ-ofZ w less less-fits ∙ two
+
+  pub bits-are : ofZ w x ≡ ofZ w (negsuc n)
+  bits-are = ap (ofZ w) is
+
+pub positive : (w : Width) (x : ℤ) → SFits w x → ltZ (toZ w (ofZ w x)) (pos 0) ≡ false → (n : ℕ) × (x ≡ pos n) × (toZ w (ofZ w x) ≡ pos n)
+positive w (pos m) s h = (m, refl, toZ-ofZ w (pos m) s)
+positive w (negsuc m) s h = let z : _≡_ {A = Bool} true false = (ap (λ (y : ℤ). ltZ y (pos 0)) (sym (toZ-ofZ w (negsuc m) s)) ∙ h) in absurd (let q : _≡_ {A = ℕ} 0 1 = cc in omega arith)
+
+-- ---- a number of fewer bits, as one of 64
+
+module _ {w : Width} {x : ℤ} (narrower : T (leb (hbits w) (hbits w64))) (s : SFits w x) where
+  pub widens : SFits w64 (toZ w (ofZ w x))
+  widens = rw (toZ-ofZ w x s) (sfits-widen narrower s)
+
+  pub widened : toZ w64 (ofZ w64 (toZ w (ofZ w x))) ≡ x
+  widened = rw (toZ-ofZ w x s) (toZ-ofZ w64 x (sfits-widen narrower s))

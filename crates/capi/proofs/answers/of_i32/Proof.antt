@@ -1,0 +1,43 @@
+-- `capi::answers::of_i32` meets its contract. Assumes nothing.
+use mathlib.Core.Path.{_≡_}
+use mir.Syntax.{w32}
+use mir.Val.{toZ, ofZ}
+use borrow.Author.Needs.{needs}
+use Rattle.capi.proofs.answers.of_i32.Statement.{statement}
+use Rattle.capi.proofs.answers.of_i32.Tie as tie
+
+enum-known-r : tie.Need-enum-known-r
+enum-known-r c = search needs
+
+of-i32-requires : tie.Need-of-i32-requires
+of-i32-requires c κs = search needs
+
+answered-requires : tie.Need-answered-requires
+answered-requires c κs = search needs
+
+enum-known-r-2 : tie.Need-enum-known-r-2
+enum-known-r-2 c = search needs
+
+refused-requires : tie.Need-refused-requires
+refused-requires c κs = search needs
+
+returns : tie.Need-returns
+returns c =
+    let z = c .before .before .before .r .given .0 .0 in
+    let t : toZ w32 (ofZ w32 z) ≡ z = search needs in
+    rw (c .before .before .before .r .given .1, ← t, ← c .before .of-i32 .ensures) (c .answered .ensures)
+
+returns-2 : tie.Need-returns-2
+returns-2 c = rw (c .before .before .r2 .given .1) (c .refused .ensures)
+
+pub of-i32-spec : {M : Type 1} → statement M
+of-i32-spec =
+    tie.close
+    (tie.spec
+    enum-known-r
+    of-i32-requires
+    answered-requires
+    enum-known-r-2
+    refused-requires
+    returns
+    returns-2)

@@ -1,0 +1,38 @@
+-- `capi::bits::of_i64` meets its contract. Assumes nothing.
+use mathlib.Core.Path.{sym, ap, _∙_}
+use native.Mathlib.Omega.{arith}
+use mir.Syntax.{w64}
+use mir.Val.{ofZ}
+use lib.IntN.{natAbs}
+use Rattle.capi.proofs.Signs.{below, more-fits, less-fits, three, bits-are, positive}
+use Rattle.capi.proofs.bits.of_i64.Statement.{statement}
+use Rattle.capi.proofs.bits.of_i64.Tie as tie
+
+add-m : tie.Need-add-m
+add-m c = more-fits w64 (c .before .args .x) (c .before .fits .x) (c .if1 .taken)
+
+sub-m : tie.Need-sub-m
+sub-m c = less-fits w64 (c .before .args .x) (c .before .fits .x) (c .if1 .taken)
+
+cast-m : tie.Need-cast-m
+cast-m c = rw (three w64 (c .before .args .x) (c .before .fits .x) (c .if1 .taken)) (tt, record { fits = omega (arith, below w64 (c .before .args .x) (c .before .fits .x) (c .if1 .taken)) })
+
+sub-result : tie.Need-sub-result
+sub-result c = rw (three w64 (c .before .args .x) (c .before .fits .x) (c .if1 .taken)) (omega (arith, below w64 (c .before .args .x) (c .before .fits .x) (c .if1 .taken)))
+
+cast-result : tie.Need-cast-result
+cast-result c =
+    let p = positive w64 (c .before .args .x) (c .before .fits .x) (c .if1 .left) in
+    let b = rw (p .1) at (c .before .fits .x .sfits) in
+    rw (p .2) (tt, record { fits = omega (arith, b) })
+
+returns : tie.Need-returns
+returns c = rw (three w64 (c .before .args .x) (c .before .fits .x) (c .if1 .taken), bits-are w64 (c .before .args .x) (c .before .fits .x) (c .if1 .taken)) (omega arith)
+
+returns-2 : tie.Need-returns-2
+returns-2 c =
+    let p = positive w64 (c .before .args .x) (c .before .fits .x) (c .if1 .left) in
+    ap natAbs (p .2) ∙ sym (ap (ofZ w64) (p .1))
+
+pub of-i64-spec : {M : Type 1} → statement M
+of-i64-spec = tie.close (tie.spec add-m sub-m cast-m sub-result cast-result returns returns-2)

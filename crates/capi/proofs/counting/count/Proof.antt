@@ -1,0 +1,83 @@
+-- `capi::counting::count` meets its contract. The loop's invariant: what is counted so far, with the walk from here, gives the reply for the
+-- whole. Assumes nothing.
+use Prim.Native.Nat.{_-_, _≤_, zero-le}
+use native.Mathlib.Omega.{arith}
+use mathlib.Core.Path.{_≡_, refl, sym, _∙_}
+use lib.ListN.{length}
+use borrow.Author.Needs.{needs}
+use Rattle.form.proofs.Walking.{from}
+use Rattle.payload.proofs.Laws.{gotOf, elseOf}
+use Rattle.token.specs.Tokens.{tokenAnswer}
+use Rattle.lexer.specs.Calls.{refusalOf}
+use Rattle.capi.specs.Counting.{counting, countReply}
+use Rattle.capi.proofs.Counts.{at-start, at-end, counted, cut-off}
+use Rattle.capi.proofs.counting.count.Statement.{statement}
+use Rattle.capi.proofs.counting.count.Tie as tie
+
+abbrev Inv-loop : tie.InvT-loop
+Inv-loop bytes at₀ n₀ at n = (at ≤ length bytes) × (n ≤ at) × (counting (length bytes) n (from bytes at) ≡ countReply bytes)
+
+abbrev μ-loop : tie.MeasureT-loop
+μ-loop bytes at₀ n₀ at n = length bytes - at
+
+loop-holds : tie.Need-loop-holds Inv-loop μ-loop
+loop-holds c = (zero-le, zero-le, at-start _)
+
+read-token-requires : tie.Need-read-token-requires Inv-loop μ-loop
+read-token-requires c κs = search needs
+
+enum-known-r : tie.Need-enum-known-r Inv-loop μ-loop
+enum-known-r c = search needs
+
+enum-told : tie.Need-enum-told Inv-loop μ-loop
+enum-told c = search needs
+
+refusal-requires : tie.Need-refusal-requires Inv-loop μ-loop
+refusal-requires c κs = search needs
+
+refused-requires : tie.Need-refused-requires Inv-loop μ-loop
+refused-requires c κs = search needs
+
+returns : tie.Need-returns Inv-loop μ-loop
+unfolding refusalOf
+returns c =
+    let e = elseOf tokenAnswer (c .before .before .before .before .read-token .ensures) (c .before .before .enum-told .given .1) (c .before .refusal .ensures) refl in
+    c .refused .ensures ∙ cut-off _ _ (c .before .before .before .before .before .loop-test .taken) e _ ∙ c .before .before .before .before .before .before .loop .inv .2
+
+add-n : tie.Need-add-n Inv-loop μ-loop
+add-n c = omega arith
+
+loop-less : tie.Need-loop-less Inv-loop μ-loop
+loop-less c =
+    let k = counted _ _ (c .before .before .before .before .loop-test .taken) (gotOf tokenAnswer (c .before .before .before .read-token .ensures) (c .before .r .given .1)) in
+    omega (arith, k .on, k .there)
+
+loop-again : tie.Need-loop-again Inv-loop μ-loop
+loop-again c =
+    let k = counted _ _ (c .before .before .before .before .loop-test .taken) (gotOf tokenAnswer (c .before .before .before .read-token .ensures) (c .before .r .given .1)) in
+    (k .there, omega (arith, k .on), sym (k .counts _) ∙ c .before .before .before .before .before .loop .inv .2)
+
+answered-requires : tie.Need-answered-requires Inv-loop μ-loop
+answered-requires c κs = search needs
+
+returns-2 : tie.Need-returns-2 Inv-loop μ-loop
+returns-2 c = c .answered .ensures ∙ at-end (c .before .before .before .before .args .bytes .now) (c .before .before .loop .at) _ (omega arith) ∙ c .before .before .loop .inv .2
+
+pub count-spec : {M : Type 1} → statement M
+count-spec =
+    tie.close
+    (tie.spec
+    Inv-loop
+    μ-loop
+    loop-holds
+    read-token-requires
+    enum-known-r
+    enum-told
+    refusal-requires
+    refused-requires
+    returns
+    add-n
+    loop-less
+    loop-again
+    answered-requires
+    returns-2)

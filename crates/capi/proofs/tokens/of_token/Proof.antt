@@ -1,0 +1,243 @@
+-- `capi::tokens::of_token` meets its contract. Assumes nothing.
+use mathlib.Core.Path.{_≡_}
+use mir.Syntax.{w32, w64}
+use mir.Val.{toZ, ofZ}
+use Rattle.form.specs.Values.{kind}
+use Rattle.token.specs.Tokens.{valueOf}
+use borrow.Author.Needs.{needs}
+use Rattle.capi.proofs.tokens.of_token.Statement.{statement}
+use Rattle.capi.proofs.tokens.of_token.Tie as tie
+
+enum-told : tie.Need-enum-told
+enum-told c = search needs
+
+answered-requires : tie.Need-answered-requires
+answered-requires c κs = search needs
+
+enum-told-2 : tie.Need-enum-told-2
+enum-told-2 c = search needs
+
+answered-requires-2 : tie.Need-answered-requires-2
+answered-requires-2 c κs = search needs
+
+enum-told-3 : tie.Need-enum-told-3
+enum-told-3 c = search needs
+
+answered-requires-3 : tie.Need-answered-requires-3
+answered-requires-3 c κs = search needs
+
+enum-known-t : tie.Need-enum-known-t
+enum-known-t c = search needs
+
+cast-answered : tie.Need-cast-answered
+cast-answered c = search needs
+
+answered-requires-4 : tie.Need-answered-requires-4
+answered-requires-4 c κs = search needs
+
+enum-known-t-2 : tie.Need-enum-known-t-2
+enum-known-t-2 c = search needs
+
+answered-requires-5 : tie.Need-answered-requires-5
+answered-requires-5 c κs = search needs
+
+enum-known-t-3 : tie.Need-enum-known-t-3
+enum-known-t-3 c = search needs
+
+of-i32-requires : tie.Need-of-i32-requires
+of-i32-requires c κs = search needs
+
+answered-requires-6 : tie.Need-answered-requires-6
+answered-requires-6 c κs = search needs
+
+enum-known-t-4 : tie.Need-enum-known-t-4
+enum-known-t-4 c = search needs
+
+of-bool-requires : tie.Need-of-bool-requires
+of-bool-requires c κs = search needs
+
+answered-requires-7 : tie.Need-answered-requires-7
+answered-requires-7 c κs = search needs
+
+enum-known-t-5 : tie.Need-enum-known-t-5
+enum-known-t-5 c = search needs
+
+answered-requires-8 : tie.Need-answered-requires-8
+answered-requires-8 c κs = search needs
+
+enum-known-t-6 : tie.Need-enum-known-t-6
+enum-known-t-6 c = search needs
+
+answered-requires-9 : tie.Need-answered-requires-9
+answered-requires-9 c κs = search needs
+
+enum-known-t-7 : tie.Need-enum-known-t-7
+enum-known-t-7 c = search needs
+
+cast-answered-2 : tie.Need-cast-answered-2
+cast-answered-2 c = search needs
+
+answered-requires-10 : tie.Need-answered-requires-10
+answered-requires-10 c κs = search needs
+
+enum-known-t-8 : tie.Need-enum-known-t-8
+enum-known-t-8 c = search needs
+
+answered-requires-11 : tie.Need-answered-requires-11
+answered-requires-11 c κs = search needs
+
+enum-known-t-9 : tie.Need-enum-known-t-9
+enum-known-t-9 c = search needs
+
+of-rgb-requires : tie.Need-of-rgb-requires
+of-rgb-requires c κs = search needs
+
+enum-known-t-10 : tie.Need-enum-known-t-10
+enum-known-t-10 c = search needs
+
+of-i64-requires : tie.Need-of-i64-requires
+of-i64-requires c κs = search needs
+
+answered-requires-12 : tie.Need-answered-requires-12
+answered-requires-12 c κs = search needs
+
+enum-known-t-11 : tie.Need-enum-known-t-11
+enum-known-t-11 c = search needs
+
+cast-answered-3 : tie.Need-cast-answered-3
+cast-answered-3 c = search needs
+
+answered-requires-13 : tie.Need-answered-requires-13
+answered-requires-13 c κs = search needs
+
+enum-known-t-12 : tie.Need-enum-known-t-12
+enum-known-t-12 c = search needs
+
+cast-answered-4 : tie.Need-cast-answered-4
+cast-answered-4 c = search needs
+
+answered-requires-14 : tie.Need-answered-requires-14
+answered-requires-14 c κs = search needs
+
+returns : tie.Need-returns
+unfolding kind valueOf
+returns c = rw (c .before .enum-told .given .1) (c .answered .ensures)
+
+returns-2 : tie.Need-returns-2
+unfolding kind valueOf
+returns-2 c = rw (c .before .enum-told2 .given .1) (c .answered2 .ensures)
+
+returns-3 : tie.Need-returns-3
+unfolding kind valueOf
+returns-3 c = rw (c .before .enum-told3 .given .1) (c .answered3 .ensures)
+
+returns-4 : tie.Need-returns-4
+unfolding kind valueOf
+returns-4 c = rw (c .before .before .t .given .1) (c .answered4 .ensures)
+
+returns-5 : tie.Need-returns-5
+unfolding kind valueOf
+returns-5 c = rw (c .before .before .t2 .given .1) (c .answered5 .ensures)
+
+returns-6 : tie.Need-returns-6
+unfolding kind valueOf
+returns-6 c =
+    let z = c .before .before .before .t3 .given .0 .0 in
+    let t : toZ w32 (ofZ w32 z) ≡ z = search needs in
+    rw (c .before .before .before .t3 .given .1, ← t, ← c .before .of-i32 .ensures) (c .answered6 .ensures)
+
+returns-7 : tie.Need-returns-7
+unfolding kind valueOf
+returns-7 c = rw (c .before .before .before .t4 .given .1, ← c .before .of-bool .ensures) (c .answered7 .ensures)
+
+returns-8 : tie.Need-returns-8
+unfolding kind valueOf
+returns-8 c = rw (c .before .before .t5 .given .1) (c .answered8 .ensures)
+
+returns-9 : tie.Need-returns-9
+unfolding kind valueOf
+returns-9 c = rw (c .before .before .t6 .given .1) (c .answered9 .ensures)
+
+returns-10 : tie.Need-returns-10
+unfolding kind valueOf
+returns-10 c = rw (c .before .before .t7 .given .1) (c .answered10 .ensures)
+
+returns-11 : tie.Need-returns-11
+unfolding kind valueOf
+returns-11 c = rw (c .before .before .t8 .given .1) (c .answered11 .ensures)
+
+returns-12 : tie.Need-returns-12
+unfolding kind valueOf
+returns-12 c = rw (c .before .before .t9 .given .1) (c .of-rgb .ensures)
+
+returns-13 : tie.Need-returns-13
+unfolding kind valueOf
+returns-13 c =
+    let z = c .before .before .before .t10 .given .0 .0 in
+    let t : toZ w64 (ofZ w64 z) ≡ z = search needs in
+    rw (c .before .before .before .t10 .given .1, ← t, ← c .before .of-i64 .ensures) (c .answered12 .ensures)
+
+returns-14 : tie.Need-returns-14
+unfolding kind valueOf
+returns-14 c = rw (c .before .before .t11 .given .1) (c .answered13 .ensures)
+
+returns-15 : tie.Need-returns-15
+unfolding kind valueOf
+returns-15 c = rw (c .before .before .t12 .given .1) (c .answered14 .ensures)
+
+pub of-token-spec : {M : Type 1} → statement M
+of-token-spec =
+    tie.close
+    (tie.spec
+    enum-told
+    answered-requires
+    enum-told-2
+    answered-requires-2
+    enum-told-3
+    answered-requires-3
+    enum-known-t
+    cast-answered
+    answered-requires-4
+    enum-known-t-2
+    answered-requires-5
+    enum-known-t-3
+    of-i32-requires
+    answered-requires-6
+    enum-known-t-4
+    of-bool-requires
+    answered-requires-7
+    enum-known-t-5
+    answered-requires-8
+    enum-known-t-6
+    answered-requires-9
+    enum-known-t-7
+    cast-answered-2
+    answered-requires-10
+    enum-known-t-8
+    answered-requires-11
+    enum-known-t-9
+    of-rgb-requires
+    enum-known-t-10
+    of-i64-requires
+    answered-requires-12
+    enum-known-t-11
+    cast-answered-3
+    answered-requires-13
+    enum-known-t-12
+    cast-answered-4
+    answered-requires-14
+    returns
+    returns-2
+    returns-3
+    returns-4
+    returns-5
+    returns-6
+    returns-7
+    returns-8
+    returns-9
+    returns-10
+    returns-11
+    returns-12
+    returns-13
+    returns-14
+    returns-15)

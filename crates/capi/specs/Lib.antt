@@ -1,0 +1,6 @@
+pub mod Replies
+pub mod Words
+pub mod Code
+pub mod Parts
+pub mod Counting
+pub mod Outputs

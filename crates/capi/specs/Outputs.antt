@@ -1,0 +1,17 @@
+-- The replies of the calls that write into a lent output, and the output after them.
+use mathlib.Core.List.{List, []}
+use Prim.Native.Nat.{ℕ}
+use lib.ListN.{length}
+use lib.Dec.{leb}
+use Rattle.form.specs.Numbers.{pick}
+use Rattle.form.specs.Writing.{Output, Outcome, wrote, declined, leaves}
+use Rattle.capi.specs.Replies.{Reply, answered, refused}
+
+-- the number of bytes written; or nothing written, and why
+abbrev pub outcomeReply : Outcome → Reply
+outcomeReply (wrote n) = answered n []
+outcomeReply (declined r) = refused 0 r
+
+-- the output, which is left alone where the answer list is too short
+abbrev pub leftBy : List ℕ → Output → List ℕ → List ℕ
+leftBy answer o out = pick (leb 8 (length answer)) (leaves o out) out

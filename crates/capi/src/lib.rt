@@ -1,0 +1,11 @@
+// The library for C and Rust. Each exported function takes numbers and slices and asks nothing of them; it returns a number, and most put
+// eight words into a list that they are lent.
+mod answers;
+mod bits;
+mod counting;
+mod kinds;
+mod lexing;
+mod parts;
+mod replies;
+mod tokens;
+mod writing;

@@ -1,0 +1,63 @@
+// Writing: a token, a save in normal form, and the dump of a save, into a lent output.
+ghost use mathlib.Core.Path.{_≡_};
+ghost use lib.ListN.{length};
+ghost use Rattle.form.specs.Writing.{outcome, normalise as Writing·normalise};
+ghost use Rattle.form.specs.Listing.{list as Listing·list};
+ghost use Rattle.normaliser.specs.Passes.{normalisedOutcome};
+ghost use Rattle.listing.specs.Answers.{listedOutcome};
+ghost use Rattle.capi.specs.Replies.{returned, into};
+ghost use Rattle.capi.specs.Code.{asReply};
+ghost use Rattle.capi.specs.Outputs.{outcomeReply, leftBy};
+use crate::replies;
+use crate::replies::Reply;
+use listing::Listed;
+use normaliser::Normalised;
+
+// The normal form of a save. The output is left alone where the answer list is too short.
+#[no_mangle]
+pub extern "C" fn stivlaheim_normalise(bytes: &[u8], out: &mut [u8], answer: &mut [u64]) -> u32
+    ensures { λ r. ⌜ returned r (now (answer .exit)) ≡ into (now (answer .entry)) (outcomeReply (outcome (Writing·normalise (length (now (out .entry))) (now (bytes .entry))))) ⌝ }
+    ensures { λ _. ⌜ now (out .exit) ≡ leftBy (now (answer .entry)) (Writing·normalise (length (now (out .entry))) (now (bytes .entry))) (now (out .entry)) ⌝ }
+{
+    if answer.len() < 8 {
+        return 100;
+    }
+    let x = normaliser::normalise(bytes, out);
+    replies::store(answer, normalised_reply(x))
+}
+
+fn normalised_reply(x: Normalised) -> Reply
+    ensures { λ r. ⌜ asReply r ≡ outcomeReply (normalisedOutcome x) ⌝ }
+{
+    match x {
+        Normalised::Written(n) => replies::answered(n, 0, 0, 0),
+        Normalised::Eof(p) => replies::coded(1, 0, p as u64, 0, 0),
+        Normalised::InvalidRgb(p) => replies::coded(2, 0, p as u64, 0, 0),
+        Normalised::NotEncodable(p) => replies::coded(3, 0, p as u64, 0, 0),
+        Normalised::NoRoom(n) => replies::coded(4, 0, n as u64, 0, 0),
+        Normalised::TooLong(n) => replies::coded(8, 0, n as u64, 0, 0),
+    }
+}
+
+// The dump of a save. The output is left alone where the answer list is too short.
+#[no_mangle]
+pub extern "C" fn stivlaheim_list(bytes: &[u8], out: &mut [u8], answer: &mut [u64]) -> u32
+    ensures { λ r. ⌜ returned r (now (answer .exit)) ≡ into (now (answer .entry)) (outcomeReply (outcome (Listing·list (length (now (out .entry))) (now (bytes .entry))))) ⌝ }
+    ensures { λ _. ⌜ now (out .exit) ≡ leftBy (now (answer .entry)) (Listing·list (length (now (out .entry))) (now (bytes .entry))) (now (out .entry)) ⌝ }
+{
+    if answer.len() < 8 {
+        return 100;
+    }
+    let x = listing::list(bytes, out);
+    replies::store(answer, listed_reply(x))
+}
+
+fn listed_reply(x: Listed) -> Reply
+    ensures { λ r. ⌜ asReply r ≡ outcomeReply (listedOutcome x) ⌝ }
+{
+    match x {
+        Listed::Written(n) => replies::answered(n, 0, 0, 0),
+        Listed::NoRoom(n) => replies::coded(4, 0, n as u64, 0, 0),
+        Listed::TooLong(n) => replies::coded(8, 0, n as u64, 0, 0),
+    }
+}

@@ -1,0 +1,109 @@
+// The calls by their numbers, and whether one answers as a line says.
+use crate::line::NUMBERS;
+use capi::counting;
+use capi::kinds;
+use capi::lexing;
+use capi::parts;
+
+// What a call returns; nothing for a number that no call has, or for an id of more than two bytes.
+pub enum Asked {
+    Code(u32),
+    Nothing,
+}
+
+// The code and all eight words are those of the line.
+pub(crate) fn holds(numbers: &[u64; NUMBERS], bytes: &[u8]) -> bool {
+    let call = numbers[0];
+    let before = lent(call);
+    let mut answer = [before; 8];
+    let asked = ask(
+        call,
+        bytes,
+        numbers[1] as usize,
+        numbers[2] as usize,
+        &mut answer,
+    );
+    match asked {
+        Asked::Code(code) => {
+            if code as u64 == numbers[3] {
+                return same_words(numbers, &answer);
+            }
+            false
+        }
+        Asked::Nothing => false,
+    }
+}
+
+// What the words are before the call, so that one that is left alone shows. The first two calls are lent none.
+fn lent(call: u64) -> u64 {
+    if call > 2 { u64::MAX } else { 0 }
+}
+
+fn same_words(numbers: &[u64; NUMBERS], answer: &[u64; 8]) -> bool {
+    let mut i: usize = 0;
+    while i < 8 {
+        if numbers[i + 4] != answer[i] {
+            return false;
+        }
+        i += 1;
+    }
+    true
+}
+
+// The recording numbers them in the same order.
+fn ask(call: u64, bytes: &[u8], at: usize, arg: usize, answer: &mut [u64]) -> Asked {
+    Asked::Code(
+        match call {
+            1 => return into_kind(arg),
+            2 => return is_id(arg),
+            3 => parts::stivlaheim_get_split(bytes, arg, answer),
+            4 => parts::stivlaheim_text(bytes, at, arg, answer),
+            5 => lexing::stivlaheim_remainder(bytes, at, answer),
+            6 => lexing::stivlaheim_read_bytes(bytes, at, arg, answer),
+            7 => lexing::stivlaheim_read_id(bytes, at, answer),
+            8 => lexing::stivlaheim_next_id(bytes, at, answer),
+            9 => lexing::stivlaheim_peek_id(bytes, at, answer),
+            10 => lexing::stivlaheim_read_token(bytes, at, answer),
+            11 => lexing::stivlaheim_next_token(bytes, at, answer),
+            12 => lexing::stivlaheim_peek_token(bytes, at, answer),
+            13 => counting::stivlaheim_count_tokens(bytes, answer),
+            14 => lexing::stivlaheim_read_string(bytes, at, answer),
+            15 => lexing::stivlaheim_read_bool(bytes, at, answer),
+            16 => lexing::stivlaheim_read_lookup_u8(bytes, at, answer),
+            17 => lexing::stivlaheim_read_lookup_u16(bytes, at, answer),
+            18 => lexing::stivlaheim_read_lookup_u24(bytes, at, answer),
+            19 => lexing::stivlaheim_read_lookup_u32(bytes, at, answer),
+            20 => lexing::stivlaheim_read_u32(bytes, at, answer),
+            21 => lexing::stivlaheim_read_u64(bytes, at, answer),
+            22 => lexing::stivlaheim_read_i32(bytes, at, answer),
+            23 => lexing::stivlaheim_read_i64(bytes, at, answer),
+            24 => lexing::stivlaheim_read_f32(bytes, at, answer),
+            25 => lexing::stivlaheim_read_f64(bytes, at, answer),
+            26 => lexing::stivlaheim_read_rgb(bytes, at, answer),
+            27 => return skip_value(bytes, at, arg, answer),
+            28 => lexing::stivlaheim_skip_container(bytes, at, answer),
+            _ => return Asked::Nothing,
+        },
+    )
+}
+
+fn into_kind(id: usize) -> Asked {
+    if id > 0xffff {
+        return Asked::Nothing;
+    }
+    Asked::Code(kinds::stivlaheim_into_kind(id as u16))
+}
+
+fn is_id(id: usize) -> Asked {
+    if id > 0xffff {
+        return Asked::Nothing;
+    }
+    Asked::Code(kinds::stivlaheim_is_id(id as u16) as u32)
+}
+
+fn skip_value(bytes: &[u8], at: usize, id: usize, answer: &mut [u64]) -> Asked {
+    if id > 0xffff {
+        return Asked::Nothing;
+    }
+    Asked::Code(lexing::stivlaheim_skip_value(bytes, at, id as u16, answer))
+}
