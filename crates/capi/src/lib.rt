@@ -2,10 +2,10 @@
 // eight words into a list that they are lent.
 mod answers;
 mod bits;
-mod counting;
-mod kinds;
-mod lexing;
-mod parts;
+pub mod counting;
+pub mod kinds;
+pub mod lexing;
+pub mod parts;
 mod replies;
 mod tokens;
 mod writing;

@@ -1,0 +1,34 @@
+//! Instruction counts: this program again, once for each row and side, under valgrind.
+
+use crate::work::{Side, Work};
+use std::fmt::Write;
+use std::process::Command;
+
+const HEAD: &str = "| Call | Save | Port, instructions | Original, instructions | Port / original |
+|---|---|---|---|---|
+";
+
+pub fn table() -> Result<String, String> {
+    let mut table = HEAD.to_string();
+    for (number, work) in Work::all().enumerate() {
+        let [port, original] = Side::ALL.map(|side| instructions(side, number));
+        let (port, original) = (port?, original?);
+        let (task, flavour, ratio) = (work.task.name(), work.flavour.name(), port as f64 / original as f64);
+        writeln!(table, "| {task} | {flavour} | {port} | {original} | {ratio:.2} |").expect("a string takes any text");
+    }
+    Ok(table)
+}
+
+fn instructions(side: Side, number: usize) -> Result<u64, String> {
+    let program = std::env::current_exe().map_err(|error| error.to_string())?;
+    let output = Command::new("valgrind")
+        .args(["--tool=callgrind", "--callgrind-out-file=/dev/null"])
+        .args(["--collect-atstart=no", "--toggle-collect=stivlaheim_bench_measured"])
+        .arg(program)
+        .args(["--once", &format!("{}:{number}", side.name())])
+        .output()
+        .map_err(|error| format!("valgrind: {error}"))?;
+    let text = String::from_utf8_lossy(&output.stderr);
+    let count = text.lines().find_map(|line| line.split_once("Collected :")?.1.trim().parse().ok());
+    count.ok_or_else(|| format!("valgrind gave no count:\n{text}"))
+}

@@ -1,0 +1,70 @@
+//! The protocol page's examples.
+
+use port::PENDING;
+use std::io::Write;
+use std::process::{Command, Stdio};
+
+/// Requests, each with its answer below it.
+const EXAMPLES: &str = include_str!("../examples");
+
+#[test]
+fn examples_are_answered() {
+    let lines: Vec<&str> = EXAMPLES.lines().collect();
+    let (pairs, odd) = lines.as_chunks::<2>();
+    assert!(odd.is_empty());
+    let due: Vec<&[&str; 2]> = pairs.iter().filter(|[request, _]| !pending(request)).collect();
+    let requests: String = due.iter().map(|[request, _]| format!("{request}\n")).collect();
+    let answers = ask(&requests);
+    let wanted: Vec<String> = due.iter().map(|[request, answer]| format!("{request} => {answer}")).collect();
+    let got: Vec<String> =
+        due.iter().zip(answers.lines()).map(|([request, _], line)| format!("{request} => {line}")).collect();
+    assert_eq!(got, wanted);
+}
+
+#[test]
+fn pending_examples_are_understood() {
+    let requests: Vec<&str> = EXAMPLES.lines().step_by(2).filter(|request| pending(request)).collect();
+    let answers = ask(&requests.iter().map(|request| format!("{request}\n")).collect::<String>());
+    assert_eq!(answers, "pending\n".repeat(requests.len()));
+}
+
+#[test]
+fn what_is_no_request() {
+    let lines = [
+        "",
+        "kind",
+        "kind 65536",
+        "kind 0x",
+        "kind +1",
+        "kind 1 2",
+        "split 0 1",
+        "split 0A 1",
+        "lex  0 read_id",
+        "lex - 0 read",
+        "lex - -1 read_id",
+        "lex - 0 read_bytes",
+        "lex - 0 position 1",
+        "source slice - ensure 1",
+        "source slice - : ensure",
+        "fast 00 -",
+        "write 9 rgb 1 2",
+        "write 9 u32 4294967296",
+    ];
+    let answers = ask(&lines.map(|line| format!("{line}\n")).concat());
+    assert_eq!(answers, "bad request\n".repeat(lines.len()));
+}
+
+fn pending(request: &str) -> bool {
+    PENDING.iter().any(|word| request.split(' ').next() == Some(word))
+}
+
+fn ask(requests: &str) -> String {
+    let mut calls = Command::new(env!("CARGO_BIN_EXE_calls"))
+        .stdin(Stdio::piped())
+        .stdout(Stdio::piped())
+        .spawn()
+        .expect("calls starts");
+    calls.stdin.take().expect("a pipe").write_all(requests.as_bytes()).expect("calls reads");
+    let output = calls.wait_with_output().expect("calls ends");
+    String::from_utf8(output.stdout).expect("text")
+}

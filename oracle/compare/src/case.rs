@@ -1,0 +1,88 @@
+//! One question put to both sides.
+
+use crate::listed::Listed;
+use protocol::{Answer, WORDS};
+
+/// What both sides answer to one question must be equal.
+pub trait Case: Sized {
+    type Seen: PartialEq;
+
+    /// Under what it is counted.
+    fn name(&self) -> &'static str;
+
+    /// The original's answer; the paper's where the difference is listed.
+    fn expected(&self) -> Self::Seen;
+
+    fn port(&self) -> Self::Seen;
+
+    fn listed(&self) -> Option<Listed> {
+        None
+    }
+
+    /// Simpler questions near this one.
+    fn smaller(&self) -> impl Iterator<Item = Self>;
+
+    /// The question in the words of the call protocol, where it has words for it.
+    fn request(&self) -> String;
+
+    fn show(&self, seen: &Self::Seen) -> String;
+
+    fn differs(&self) -> bool {
+        self.expected() != self.port()
+    }
+}
+
+/// A question that the port answers in a lent list.
+pub trait Ask {
+    fn ask(&self, answer: &mut [u64]) -> u32;
+}
+
+/// What stands in the lent list before a call.
+const LENT: u64 = 0x5ea1_ed00_5ea1_ed00;
+/// More than the port may fill.
+const ROOM: usize = WORDS + 2;
+
+/// A code, and the lent list after the call with what lies beyond the answer.
+#[derive(Clone, Copy, Debug, PartialEq, Eq)]
+pub struct Seen {
+    pub code: u32,
+    pub words: [u64; ROOM],
+}
+
+impl Seen {
+    /// `room` words of the list are handed over.
+    pub fn of_port(case: &impl Ask, room: usize) -> Seen {
+        let mut words = [LENT; ROOM];
+        let code = case.ask(&mut words[..room]);
+        Seen { code, words }
+    }
+
+    pub fn port(case: &impl Ask) -> Seen {
+        Seen::of_port(case, ROOM)
+    }
+
+    pub fn untouched(code: u32) -> Seen {
+        Seen { code, words: [LENT; ROOM] }
+    }
+
+    pub fn answer(&self) -> Answer {
+        let mut words = [0; WORDS];
+        words.copy_from_slice(&self.words[..WORDS]);
+        Answer { code: self.code, words }
+    }
+
+    /// Code and words; a word that was left as lent is a dot.
+    pub fn raw(&self) -> String {
+        let word = |word: &u64| if *word == LENT { ".".to_string() } else { word.to_string() };
+        let words: Vec<String> = self.words.iter().map(word).collect();
+        format!("{} [{}]", self.code, words.join(" "))
+    }
+}
+
+impl From<Answer> for Seen {
+    fn from(answer: Answer) -> Seen {
+        let mut seen = Seen::untouched(answer.code);
+        seen.words[..WORDS].copy_from_slice(&answer.words);
+        seen
+    }
+}

@@ -1,0 +1,105 @@
+//! A run: it asks, counts, and keeps the differences.
+
+use crate::case::Case;
+use crate::listed::Listed;
+use crate::shrink::shrink;
+use std::io::{IsTerminal, Write, stderr};
+
+pub struct Run {
+    counts: Counts,
+    listed: [u64; Listed::ALL.len()],
+    different: Counts,
+    progress: bool,
+}
+
+impl Run {
+    pub fn new() -> Run {
+        Run {
+            counts: Counts::default(),
+            listed: [0; Listed::ALL.len()],
+            different: Counts::default(),
+            progress: stderr().is_terminal(),
+        }
+    }
+
+    pub fn check<C: Case>(&mut self, case: &C) {
+        self.counts.add(case.name());
+        if let Some(listed) = case.listed() {
+            self.listed[listed as usize] += 1;
+        }
+        if case.differs() {
+            self.differ(case);
+        }
+    }
+
+    /// Checks, and prints question and answer.
+    pub fn show<C: Case>(&mut self, case: &C) {
+        println!("  {} => {}", case.request(), case.show(&case.port()));
+        self.check(case);
+    }
+
+    /// The first difference under each name is made as small as can be.
+    fn differ<C: Case>(&mut self, case: &C) {
+        if self.different.add(case.name()) > 1 {
+            return;
+        }
+        match shrink(case) {
+            Some(small) => report(&small),
+            None => report(case),
+        }
+    }
+
+    pub fn progress(&self, stage: &str, done: usize, all: usize) {
+        if self.progress {
+            eprint!("\r\x1b[K{stage}: {done} of {all}, {} calls", self.counts.total());
+            stderr().flush().expect("a terminal takes text");
+        }
+    }
+
+    /// The counts; true if nothing differs but what is listed.
+    pub fn finish(&self) -> bool {
+        if self.progress {
+            eprint!("\r\x1b[K");
+        }
+        for (name, count) in &self.counts.0 {
+            println!("{count:>12} {name}");
+        }
+        println!("{:>12} in all", self.counts.total());
+        for listed in Listed::ALL {
+            println!("{:>12} of them: listed difference {}", self.listed[listed as usize], listed.name());
+        }
+        for (name, count) in &self.different.0 {
+            println!("DIFFERENT {name}: {count}");
+        }
+        println!("{:>12} different", self.different.total());
+        self.different.total() == 0
+    }
+}
+
+fn report<C: Case>(case: &C) {
+    println!("DIFFERENT {}", case.name());
+    println!("  {}", case.request());
+    println!("  expected {}", case.show(&case.expected()));
+    println!("  port     {}", case.show(&case.port()));
+}
+
+/// Counts by name, in the order of their coming, the last one found again at once.
+#[derive(Default)]
+struct Counts(Vec<(&'static str, u64)>, usize);
+
+impl Counts {
+    fn add(&mut self, name: &'static str) -> u64 {
+        if self.0.get(self.1).is_none_or(|(last, _)| !std::ptr::eq(*last, name)) {
+            self.1 = self.0.iter().position(|(known, _)| *known == name).unwrap_or(self.0.len());
+            if self.1 == self.0.len() {
+                self.0.push((name, 0));
+            }
+        }
+        self.0[self.1].1 += 1;
+        self.0[self.1].1
+    }
+
+    fn total(&self) -> u64 {
+        self.0.iter().map(|(_, count)| count).sum()
+    }
+}

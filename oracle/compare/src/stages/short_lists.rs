@@ -1,0 +1,25 @@
+//! Every function with an answer list that is too short.
+
+use super::sweep::plain_calls;
+use crate::case::{Ask, Case};
+use crate::run::Run;
+use crate::subjects::{Count, Lex, Short, Split, Text};
+use protocol::{Call, WORDS};
+
+pub fn short_lists(run: &mut Run) {
+    let bytes = [0x14, 0, 1, 2, 3, 4, 5, 6, 7, 8];
+    for call in plain_calls().chain([Call::ReadBytes(1), Call::SkipValue(0x14)]) {
+        for at in [0, 9, 10, 11] {
+            too_short(run, &Lex::new(&bytes, at, call));
+        }
+    }
+    too_short(run, &Split { bytes: bytes.to_vec(), count: 2 });
+    too_short(run, &Text::new(&bytes, 1, 2));
+    too_short(run, &Count::new(&bytes));
+}
+
+fn too_short<C: Case + Ask>(run: &mut Run, case: &C) {
+    for room in 0..WORDS {
+        run.check(&Short { case, room });
+    }
+}

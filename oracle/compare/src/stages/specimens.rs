@@ -1,0 +1,68 @@
+//! The scope paper's specimens, with its words for their answers.
+
+use super::sweep::every_place;
+use crate::case::Case;
+use crate::run::Run;
+use protocol::Request;
+
+/// Request and answer, one specimen a line.
+pub const SPECIMENS: &str = include_str!("specimens.txt");
+
+/// The original must answer as the paper says, and so must the port.
+struct Specimen {
+    line: &'static str,
+}
+
+impl Specimen {
+    fn parts(&self) -> (Request, &'static str) {
+        let (request, answer) = self.line.split_once(" => ").expect("request => answer");
+        (Request::parse(request).expect("a request"), answer)
+    }
+
+    fn pending(&self) -> bool {
+        port::PENDING.iter().any(|word| self.line.starts_with(word))
+    }
+}
+
+impl Case for Specimen {
+    /// The original's line and the port's.
+    type Seen = [String; 2];
+
+    fn name(&self) -> &'static str {
+        "specimens"
+    }
+
+    fn expected(&self) -> [String; 2] {
+        let (_, answer) = self.parts();
+        [answer.to_string(), answer.to_string()]
+    }
+
+    fn port(&self) -> [String; 2] {
+        let (request, answer) = self.parts();
+        let original = original::answer_request(&request).expect("the original has the call");
+        let port = if self.pending() { answer.to_string() } else { port::answer_request(&request) };
+        [original, port]
+    }
+
+    fn smaller(&self) -> impl Iterator<Item = Self> {
+        std::iter::empty()
+    }
+
+    fn request(&self) -> String {
+        self.line.to_string()
+    }
+
+    fn show(&self, [original, port]: &[String; 2]) -> String {
+        format!("{port} (the original: {original})")
+    }
+}
+
+pub fn specimens(run: &mut Run) {
+    for line in SPECIMENS.lines() {
+        let specimen = Specimen { line };
+        run.check(&specimen);
+        if let (Request::Lex { bytes, .. }, _) = specimen.parts() {
+            every_place(run, &bytes);
+        }
+    }
+}

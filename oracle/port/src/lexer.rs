@@ -1,0 +1,114 @@
+//! Ids and kinds, the Lexer's calls, a token's text, and the count of a whole save's tokens.
+
+use protocol::{Call, code};
+
+macro_rules! plain_calls {
+    ($($call:ident $name:ident,)*) => {
+        unsafe extern "C" {
+            $(fn $name(bytes: *const u8, len: usize, at: usize, answer: *mut u64, answer_len: usize) -> u32;)*
+        }
+
+        /// A call that takes no number beside the cursor.
+        fn plain(call: Call, bytes: &[u8], at: usize, answer: &mut [u64]) -> u32 {
+            let function = match call {
+                $(Call::$call => $name,)*
+                Call::Position | Call::ReadBytes(_) | Call::SkipValue(_) => unreachable!("{call} is not plain"),
+            };
+            // SAFETY: both slices live through the call, and the lent one is apart from the other.
+            unsafe { function(bytes.as_ptr(), bytes.len(), at, answer.as_mut_ptr(), answer.len()) }
+        }
+    };
+}
+
+plain_calls! {
+    ReadId stivlaheim_read_id,
+    NextId stivlaheim_next_id,
+    PeekId stivlaheim_peek_id,
+    ReadToken stivlaheim_read_token,
+    NextToken stivlaheim_next_token,
+    PeekToken stivlaheim_peek_token,
+    ReadString stivlaheim_read_string,
+    ReadBool stivlaheim_read_bool,
+    ReadLookupU8 stivlaheim_read_lookup_u8,
+    ReadLookupU16 stivlaheim_read_lookup_u16,
+    ReadLookupU24 stivlaheim_read_lookup_u24,
+    ReadLookupU32 stivlaheim_read_lookup_u32,
+    ReadU32 stivlaheim_read_u32,
+    ReadU64 stivlaheim_read_u64,
+    ReadI32 stivlaheim_read_i32,
+    ReadI64 stivlaheim_read_i64,
+    ReadF32 stivlaheim_read_f32,
+    ReadF64 stivlaheim_read_f64,
+    ReadRgb stivlaheim_read_rgb,
+    SkipContainer stivlaheim_skip_container,
+    Remainder stivlaheim_remainder,
+}
+
+unsafe extern "C" {
+    safe fn stivlaheim_into_kind(id: u16) -> u32;
+    safe fn stivlaheim_is_id(id: u16) -> bool;
+    fn stivlaheim_read_bytes(
+        bytes: *const u8,
+        len: usize,
+        at: usize,
+        count: usize,
+        answer: *mut u64,
+        answer_len: usize,
+    ) -> u32;
+    fn stivlaheim_skip_value(
+        bytes: *const u8,
+        len: usize,
+        at: usize,
+        id: u16,
+        answer: *mut u64,
+        answer_len: usize,
+    ) -> u32;
+    fn stivlaheim_text(
+        bytes: *const u8,
+        len: usize,
+        start: usize,
+        text_len: usize,
+        answer: *mut u64,
+        answer_len: usize,
+    ) -> u32;
+    fn stivlaheim_count_tokens(bytes: *const u8, len: usize, answer: *mut u64, answer_len: usize) -> u32;
+}
+
+pub fn kind(id: u16) -> u32 {
+    stivlaheim_into_kind(id)
+}
+
+pub fn is_id(id: u16) -> bool {
+    stivlaheim_is_id(id)
+}
+
+pub fn lex(bytes: &[u8], at: usize, call: Call, answer: &mut [u64]) -> u32 {
+    let (data, len, words, count) = (bytes.as_ptr(), bytes.len(), answer.as_mut_ptr(), answer.len());
+    match call {
+        // SAFETY: both slices live through the call, and the lent one is apart from the other.
+        Call::ReadBytes(n) => unsafe { stivlaheim_read_bytes(data, len, at, n, words, count) },
+        // SAFETY: the same.
+        Call::SkipValue(id) => unsafe { stivlaheim_skip_value(data, len, at, id, words, count) },
+        Call::Position => position(bytes, at, answer),
+        _ => plain(call, bytes, at, answer),
+    }
+}
+
+/// No function of its own: the cursor of `remainder`, without the part.
+fn position(bytes: &[u8], at: usize, answer: &mut [u64]) -> u32 {
+    let code = plain(Call::Remainder, bytes, at, answer);
+    if code == code::ANSWERED {
+        answer[1..].fill(0);
+    }
+    code
+}
+
+pub fn text(bytes: &[u8], start: usize, len: usize, answer: &mut [u64]) -> u32 {
+    // SAFETY: both slices live through the call, and the lent one is apart from the other.
+    unsafe { stivlaheim_text(bytes.as_ptr(), bytes.len(), start, len, answer.as_mut_ptr(), answer.len()) }
+}
+
+pub fn count_tokens(bytes: &[u8], answer: &mut [u64]) -> u32 {
+    // SAFETY: both slices live through the call, and the lent one is apart from the other.
+    unsafe { stivlaheim_count_tokens(bytes.as_ptr(), bytes.len(), answer.as_mut_ptr(), answer.len()) }
+}

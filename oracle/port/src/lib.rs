@@ -1,0 +1,20 @@
+//! The port, through its C functions.
+//!
+//! Each function here lends the port an answer list of the caller's choosing and gives its code back, so that what the
+//! port leaves alone can be seen too; `answer` is for callers who want the eight words only.
+
+mod lexer;
+mod requests;
+mod split;
+
+pub use lexer::{count_tokens, is_id, kind, lex, text};
+pub use requests::{PENDING, answer_request};
+pub use split::split;
+
+use protocol::{Answer, WORDS};
+
+pub fn answer(call: impl FnOnce(&mut [u64]) -> u32) -> Answer {
+    let mut words = [0; WORDS];
+    let code = call(&mut words);
+    Answer { code, words }
+}

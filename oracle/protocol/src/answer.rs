@@ -1,0 +1,46 @@
+//! An answer as the C functions give it: a code, and eight words in the lent list.
+
+pub const WORDS: usize = 8;
+
+/// The refusals' numbers, and three more that are none of the paper's.
+pub mod code {
+    pub const ANSWERED: u32 = 0;
+    pub const EOF: u32 = 1;
+    pub const INVALID_RGB: u32 = 2;
+    pub const NOT_ENCODABLE: u32 = 3;
+    pub const NO_ROOM: u32 = 4;
+    pub const BUFFER_TOO_SMALL: u32 = 5;
+    pub const READ_FAILED: u32 = 6;
+    pub const BAD_PLACE: u32 = 7;
+    pub const TOO_LONG: u32 = 8;
+    pub const NONE: u32 = 9;
+    pub const SHORT_ANSWER: u32 = 100;
+}
+
+/// Word 0 is the cursor after the call, the others hold the value or what the refusal carries.
+#[derive(Clone, Copy, Debug, PartialEq, Eq)]
+pub struct Answer {
+    pub code: u32,
+    pub words: [u64; WORDS],
+}
+
+impl Answer {
+    pub fn found(at: usize, value: &[u64]) -> Answer {
+        let mut words = [0; WORDS];
+        words[0] = at as u64;
+        words[1..=value.len()].copy_from_slice(value);
+        Answer { code: code::ANSWERED, words }
+    }
+
+    pub fn none(at: usize) -> Answer {
+        Answer { code: code::NONE, ..Answer::found(at, &[]) }
+    }
+
+    pub fn refused(code: u32, at: usize, value: usize) -> Answer {
+        Answer { code, ..Answer::found(at, &[value as u64]) }
+    }
+
+    pub fn value(&self) -> &[u64] {
+        &self.words[1..]
+    }
+}

@@ -1,0 +1,18 @@
+//! What the original, the port and the programs here say to each other: the calls, their answers
+//! as the C functions give them, and the request and answer lines of the `calls` program.
+
+mod answer;
+mod call;
+mod hex;
+mod request;
+mod show;
+mod source;
+mod token;
+
+pub use answer::{Answer, WORDS, code};
+pub use call::{Call, Shape};
+pub use hex::{hex, unhex};
+pub use request::Request;
+pub use show::{kind_line, lex_line, split_line};
+pub use source::{Got, Op, Source, State, Stream, source_line};
+pub use token::{Colour, KINDS, Token};

@@ -1,0 +1,182 @@
+//! The request lines.
+
+use crate::{Call, Colour, Op, Source, Stream, Token, unhex};
+use std::str::FromStr;
+
+#[derive(Clone, Debug, PartialEq, Eq)]
+pub enum Request {
+    Kind(u16),
+    Split { bytes: Vec<u8>, count: usize },
+    Lex { bytes: Vec<u8>, at: usize, call: Call },
+    Write { room: usize, token: Token },
+    Dump { bytes: Vec<u8> },
+    Normal { room: usize, bytes: Vec<u8> },
+    Fast { held: [u8; 8], window: Vec<u8> },
+    Source { source: Source, ops: Vec<Op> },
+}
+
+impl Request {
+    /// Nothing where the line is no request.
+    pub fn parse(line: &str) -> Option<Request> {
+        if let Some((head, ops)) = line.split_once(" : ") {
+            let mut words = Words::of(head);
+            words.expect("source")?;
+            let source = source(&mut words)?;
+            let ops = ops.split(" ; ").map(whole_op).collect::<Option<_>>()?;
+            return words.end(Request::Source { source, ops });
+        }
+        let mut words = Words::of(line);
+        let request = simple(&mut words)?;
+        words.end(request)
+    }
+}
+
+/// The words of a line, parted by single spaces.
+struct Words<'a>(std::str::Split<'a, char>);
+
+impl<'a> Words<'a> {
+    fn of(line: &'a str) -> Words<'a> {
+        Words(line.split(' '))
+    }
+
+    fn word(&mut self) -> Option<&'a str> {
+        self.0.next()
+    }
+
+    fn expect(&mut self, word: &str) -> Option<()> {
+        (self.word()? == word).then_some(())
+    }
+
+    fn number<N: FromStr>(&mut self) -> Option<N> {
+        number(self.word()?)
+    }
+
+    fn id(&mut self) -> Option<u16> {
+        let word = self.word()?;
+        match word.strip_prefix("0x") {
+            Some(digits) if !digits.starts_with('+') => u16::from_str_radix(digits, 16).ok(),
+            Some(_) => None,
+            None => number(word),
+        }
+    }
+
+    fn bytes(&mut self) -> Option<Vec<u8>> {
+        unhex(self.word()?)
+    }
+
+    fn array<const N: usize>(&mut self) -> Option<[u8; N]> {
+        self.bytes()?.try_into().ok()
+    }
+
+    fn end<T>(mut self, value: T) -> Option<T> {
+        self.word().is_none().then_some(value)
+    }
+}
+
+fn number<N: FromStr>(word: &str) -> Option<N> {
+    if word.starts_with('+') { None } else { word.parse().ok() }
+}
+
+fn simple(words: &mut Words) -> Option<Request> {
+    Some(match words.word()? {
+        "kind" => Request::Kind(words.id()?),
+        "split" => Request::Split { bytes: words.bytes()?, count: words.number()? },
+        "lex" => Request::Lex { bytes: words.bytes()?, at: words.number()?, call: call(words)? },
+        "write" => Request::Write { room: words.number()?, token: token(words)? },
+        "dump" => Request::Dump { bytes: words.bytes()? },
+        "normal" => Request::Normal { room: words.number()?, bytes: words.bytes()? },
+        "fast" => Request::Fast { held: words.array()?, window: words.bytes()? },
+        _ => return None,
+    })
+}
+
+fn call(words: &mut Words) -> Option<Call> {
+    match words.word()? {
+        "read_bytes" => Some(Call::ReadBytes(words.number()?)),
+        "skip_value" => Some(Call::SkipValue(words.id()?)),
+        name => Call::PLAIN.iter().copied().find(|call| call.name() == name),
+    }
+}
+
+fn token(words: &mut Words) -> Option<Token> {
+    Some(match words.word()? {
+        "open" => Token::Open,
+        "close" => Token::Close,
+        "equal" => Token::Equal,
+        "u32" => Token::U32(words.number()?),
+        "u64" => Token::U64(words.number()?),
+        "i32" => Token::I32(words.number()?),
+        "bool" => Token::Bool(words.number()?),
+        "quoted" => Token::Quoted(words.bytes()?),
+        "unquoted" => Token::Unquoted(words.bytes()?),
+        "f32" => Token::F32(words.array()?),
+        "f64" => Token::F64(words.array()?),
+        "rgb" => Token::Rgb(colour(words)?),
+        "i64" => Token::I64(words.number()?),
+        "lookup" => Token::Lookup(words.number()?),
+        "id" => Token::Id(words.id()?),
+        _ => return None,
+    })
+}
+
+fn colour(words: &mut Words) -> Option<Colour> {
+    let (r, g, b) = (words.number()?, words.number()?, words.number()?);
+    let a = match words.word() {
+        Some(word) => Some(number(word)?),
+        None => None,
+    };
+    Some(Colour { r, g, b, a })
+}
+
+fn source(words: &mut Words) -> Option<Source> {
+    Some(match words.word()? {
+        "slice" => Source::Slice(words.bytes()?),
+        "stream" => {
+            let buffer = vec![0; words.number()?];
+            Source::Stream(Stream::new(buffer, words.bytes()?, schedule(words.word()?)?))
+        }
+        "state" => Source::Stream(Stream {
+            buffer: words.bytes()?,
+            start: words.number()?,
+            end: words.number()?,
+            position: words.number()?,
+            supply: words.bytes()?,
+            supply_at: words.number()?,
+            schedule: schedule(words.word()?)?,
+            schedule_at: words.number()?,
+        }),
+        _ => return None,
+    })
+}
+
+fn schedule(word: &str) -> Option<Vec<u32>> {
+    if word == "-" {
+        return Some(Vec::new());
+    }
+    word.split(',').map(|entry| if entry == "f" { Some(Stream::FAILS) } else { number(entry) }).collect()
+}
+
+fn whole_op(text: &str) -> Option<Op> {
+    let mut words = Words::of(text);
+    let op = op(&mut words)?;
+    words.end(op)
+}
+
+fn op(words: &mut Words) -> Option<Op> {
+    Some(match words.word()? {
+        "ensure" => Op::Ensure(words.number()?),
+        "refill" => Op::Refill,
+        "peek" => Op::Peek(words.number()?),
+        "take" => Op::Take(words.number()?),
+        "try_take" => Op::TryTake(words.number()?),
+        "take_bytes" => Op::TakeBytes(words.number()?),
+        "try_take_bytes" => Op::TryTakeBytes(words.number()?),
+        "advance" => Op::Advance(words.number()?),
+        "window_len" => Op::WindowLen,
+        "read_bstr" => Op::ReadBstr,
+        "read_lexeme_id" => Op::ReadLexemeId,
+        "peek_lexeme_id" => Op::PeekLexemeId,
+        "read_rgb" => Op::ReadRgb,
+        _ => return None,
+    })
+}

@@ -1,0 +1,86 @@
+//! The answer lines.
+
+use crate::{Answer, Call, KINDS, Shape, code, hex};
+
+pub fn kind_line(kind: u32, is_id: bool) -> String {
+    let name = KINDS.get(kind as usize).copied().unwrap_or("unknown");
+    format!("{name} {}", if is_id { "plain" } else { "reserved" })
+}
+
+pub fn split_line(bytes: &[u8], answer: &Answer) -> String {
+    let [count, start, length, ..] = answer.words;
+    match answer.code {
+        code::ANSWERED => format!("ok {} {}", hex(part(bytes, 0, count)), hex(part(bytes, start, length))),
+        _ => "none".to_string(),
+    }
+}
+
+pub fn lex_line(bytes: &[u8], call: Call, answer: &Answer) -> String {
+    let [at, refused, ..] = answer.words;
+    match answer.code {
+        code::ANSWERED => {
+            let value = value(bytes, call.shape(), answer.value());
+            let space = if value.is_empty() { "" } else { " " };
+            format!("ok{space}{value} at {at}")
+        }
+        code::NONE => format!("none at {at}"),
+        code::BAD_PLACE => format!("badplace {refused}"),
+        code => format!("err {} {refused} at {at}", refusal(code)),
+    }
+}
+
+pub(crate) fn refusal(code: u32) -> String {
+    let names = [
+        (code::EOF, "eof"),
+        (code::INVALID_RGB, "rgb"),
+        (code::NOT_ENCODABLE, "notencodable"),
+        (code::NO_ROOM, "noroom"),
+        (code::BUFFER_TOO_SMALL, "small"),
+        (code::READ_FAILED, "read"),
+        (code::TOO_LONG, "toolong"),
+    ];
+    let found = names.iter().find(|(number, _)| *number == code);
+    found.map_or_else(|| format!("code{code}"), |(_, name)| name.to_string())
+}
+
+pub(crate) fn colour(words: &[u64]) -> String {
+    let alpha = if words[3] == 0 { String::new() } else { format!(" {}", words[4]) };
+    format!("{} {} {}{alpha}", words[0], words[1], words[2])
+}
+
+fn value(bytes: &[u8], shape: Shape, words: &[u64]) -> String {
+    match shape {
+        Shape::Nothing => String::new(),
+        Shape::Number => words[0].to_string(),
+        Shape::Signed => words[0].cast_signed().to_string(),
+        Shape::Bool => (words[0] != 0).to_string(),
+        Shape::Bytes4 => hex(&words[0].to_le_bytes()[..4]),
+        Shape::Bytes8 => hex(&words[0].to_le_bytes()),
+        Shape::Part => format!("{} {} {}", words[0], words[1], hex(part(bytes, words[0], words[1]))),
+        Shape::Colour => colour(words),
+        Shape::Token => token(bytes, words),
+    }
+}
+
+fn token(bytes: &[u8], words: &[u64]) -> String {
+    let Some(name) = KINDS.get(words[0] as usize) else {
+        return format!("unknown {}", words[0]);
+    };
+    let shape = match *name {
+        "open" | "close" | "equal" => return name.to_string(),
+        "i32" | "i64" => Shape::Signed,
+        "bool" => Shape::Bool,
+        "quoted" | "unquoted" => Shape::Part,
+        "f32" => Shape::Bytes4,
+        "f64" => Shape::Bytes8,
+        "rgb" => Shape::Colour,
+        _ => Shape::Number,
+    };
+    format!("{name} {}", value(bytes, shape, &words[1..]))
+}
+
+/// Empty where the words name no part of the bytes.
+fn part(bytes: &[u8], start: u64, length: u64) -> &[u8] {
+    let rest = bytes.get(start as usize..).unwrap_or_default();
+    rest.get(..length as usize).unwrap_or_default()
+}

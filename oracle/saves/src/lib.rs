@@ -1,0 +1,11 @@
+//! Saves made up from a seed, of several flavours, and ways to damage them.
+
+mod damage;
+mod flavour;
+mod ids;
+mod rng;
+
+pub use damage::{bad_colour, flip, random_bytes, random_ids};
+pub use flavour::{Flavour, Plan, save, token};
+pub use ids::{Payload, RESERVED, payload};
+pub use rng::Rng;
