@@ -16,6 +16,7 @@
  *  - STIVLAHEIM_ANSWERED: word 0 is the cursor after the call, words 1 to 7 the value's words, 0 where it has fewer;
  *  - STIVLAHEIM_NONE: there is none; word 0 is the cursor, the others are 0;
  *  - a refusal: word 0 is the cursor that is left, word 1 what the refusal returns, the others are 0.
+ * Where a function says so it returns STIVLAHEIM_BAD_ARGUMENT, and changes nothing.
  *
  * A value's words:
  *  - an unsigned number, an id, a float: one, the number (a float's is the one that its bytes spell, little-endian);
@@ -52,7 +53,8 @@ enum {
     STIVLAHEIM_BAD_PLACE = 7,        /* the place given */
     STIVLAHEIM_TOO_LONG = 8,         /* the input's length */
     STIVLAHEIM_NONE = 9,
-    STIVLAHEIM_SHORT_ANSWER = 100
+    STIVLAHEIM_SHORT_ANSWER = 100,
+    STIVLAHEIM_BAD_ARGUMENT = 101 /* what was handed over is not what the call takes; nothing is changed */
 };
 
 /* The kinds of tokens. */
@@ -171,13 +173,33 @@ uint32_t stivlaheim_remainder(const uint8_t *bytes, size_t bytes_len, size_t at,
  * position is word 0 too. */
 uint32_t stivlaheim_count_tokens(const uint8_t *bytes, size_t bytes_len, uint64_t *answer, size_t answer_len);
 
-/* The normal form of a save, at the front of `out`: word 0 is the number of bytes written. A refusal leaves `out` as it is, and word 0 is 0:
- * too long, then the first end of input, bad colour or wide lookup in the file, then no room. */
+/* ---- Writing: each call writes at the front of `out`, and word 0 is the number of bytes written; what stands after them is left as it
+ * is. A refusal leaves all of `out` as it is: word 0 is 0, and word 1 what the refusal returns. So does an answer list that is too short. */
+
+/* One token, by its kind and the words of what it holds, as stivlaheim_read_token answers them from word 2 on; a string's text stands in
+ * `bytes`. `words` has at least five words, and those beyond the token's own are not looked at. BAD_ARGUMENT, after the test of the answer
+ * list, if there are fewer than five, if there is no such kind, or if the words are no value of it: a number that is too large for its
+ * type, a bool or a colour's fourth word over 1. An alpha is looked at only where the fourth word is 1. BAD_PLACE with the start if the
+ * text does not lie within the bytes; NOT_ENCODABLE with 0 if a text is longer than 65535 bytes, a lookup needs more than three bytes, or
+ * an id is reserved; NO_ROOM if `out` is too short. They are tested in this order. */
+uint32_t stivlaheim_write(const uint8_t *bytes, size_t bytes_len, uint32_t kind, const uint64_t *words, size_t words_len, uint8_t *out,
+                          size_t out_len, uint64_t *answer, size_t answer_len);
+
+/* A save in normal form. TOO_LONG before anything is read; then the first refusal in the order of the file: EOF, INVALID_RGB, or
+ * NOT_ENCODABLE with the position of a lookup that needs more than three bytes; then NO_ROOM with the bytes needed. */
 uint32_t stivlaheim_normalise(const uint8_t *bytes, size_t bytes_len, uint8_t *out, size_t out_len, uint64_t *answer, size_t answer_len);
 
-/* The dump of a save, at the front of `out`: word 0 is the number of bytes written. A refusal (too long, no room) leaves `out` as it is, and
- * word 0 is 0. */
+/* The text that the program dump prints for a save. TOO_LONG before anything is read; NO_ROOM with the bytes needed. A token that cannot be
+ * read refuses nothing: the text says so. */
 uint32_t stivlaheim_list(const uint8_t *bytes, size_t bytes_len, uint8_t *out, size_t out_len, uint64_t *answer, size_t answer_len);
+
+/* ---- The fast step */
+
+/* The next token of a window, with its number, length or id in eight held bytes: word 0 is its length, word 1 its kind. NONE, with word 0
+ * zero and the held bytes as they were, under 16 bytes, for a colour, and for a string that is not wholly there. BAD_ARGUMENT if `held` has
+ * not eight bytes. */
+uint32_t stivlaheim_next_token_fast(const uint8_t *window, size_t window_len, uint8_t *held, size_t held_len, uint64_t *answer,
+                                    size_t answer_len);
 
 #ifdef __cplusplus
 }

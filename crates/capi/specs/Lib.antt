@@ -4,3 +4,5 @@ pub mod Code
 pub mod Parts
 pub mod Counting
 pub mod Outputs
+pub mod Given
+pub mod Steps

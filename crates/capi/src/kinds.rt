@@ -16,7 +16,7 @@ pub extern "C" fn stivlaheim_into_kind(id: u16) -> u32
 }
 
 // A kind's place in TokenKind.
-fn kind_number(k: TokenKind) -> u32
+pub(crate) fn kind_number(k: TokenKind) -> u32
     ensures { λ r. ⌜ r ≡ kindNumber k ⌝ }
 {
     match k {

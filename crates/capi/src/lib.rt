@@ -3,9 +3,11 @@
 mod answers;
 mod bits;
 pub mod counting;
+mod given;
 pub mod kinds;
 pub mod lexing;
 pub mod parts;
 mod replies;
+mod stepping;
 mod tokens;
 mod writing;

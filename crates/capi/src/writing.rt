@@ -3,15 +3,57 @@ ghost use mathlib.Core.Path.{_≡_};
 ghost use lib.ListN.{length};
 ghost use Rattle.form.specs.Writing.{outcome, normalise as Writing·normalise};
 ghost use Rattle.form.specs.Listing.{list as Listing·list};
+ghost use Rattle.writer.specs.Writes.{wroteOutcome};
 ghost use Rattle.normaliser.specs.Passes.{normalisedOutcome};
 ghost use Rattle.listing.specs.Answers.{listedOutcome};
 ghost use Rattle.capi.specs.Replies.{returned, into};
 ghost use Rattle.capi.specs.Code.{asReply};
 ghost use Rattle.capi.specs.Outputs.{outcomeReply, leftBy};
+ghost use Rattle.capi.specs.Given.{givenToken, writeReturns, writeLeaves};
+use crate::given;
+use crate::given::Given;
 use crate::replies;
 use crate::replies::Reply;
 use listing::Listed;
 use normaliser::Normalised;
+use writer::Wrote;
+
+// A token, at the front of the output. Where the answer list is too short, or there is no such token, nothing is changed.
+#[no_mangle]
+pub extern "C" fn stivlaheim_write(
+    bytes: &[u8],
+    kind: u32,
+    words: &[u64],
+    out: &mut [u8],
+    answer: &mut [u64],
+) -> u32
+    ensures { λ r. ⌜ returned r (now (answer .exit)) ≡ writeReturns (length (now (out .entry))) (now (bytes .entry)) (now (answer .entry)) (givenToken kind (now (words .entry))) ⌝ }
+    ensures { λ _. ⌜ now (out .exit) ≡ writeLeaves (now (bytes .entry)) (now (answer .entry)) (givenToken kind (now (words .entry))) (now (out .entry)) ⌝ }
+{
+    if answer.len() < 8 {
+        return 100;
+    }
+    if words.len() < 5 {
+        return 101;
+    }
+    let g = given::of_words(kind, words);
+    let Given::Token(t) = g else {
+        return 101;
+    };
+    let x = writer::write(bytes, t, out);
+    replies::store(answer, wrote_reply(x))
+}
+
+fn wrote_reply(x: Wrote) -> Reply
+    ensures { λ r. ⌜ asReply r ≡ outcomeReply (wroteOutcome x) ⌝ }
+{
+    match x {
+        Wrote::Written(n) => replies::answered(n, 0, 0, 0),
+        Wrote::NotEncodable(p) => replies::coded(3, 0, p as u64, 0, 0),
+        Wrote::NoRoom(n) => replies::coded(4, 0, n as u64, 0, 0),
+        Wrote::BadPlace(p) => replies::coded(7, 0, p as u64, 0, 0),
+    }
+}
 
 // The normal form of a save. The output is left alone where the answer list is too short.
 #[no_mangle]

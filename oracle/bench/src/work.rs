@@ -1,7 +1,7 @@
 //! What is measured.
 
-use protocol::{Answer, Call, code};
-use saves::{Flavour, Plan, Rng, save};
+use protocol::{Answer, Call, WORDS, code};
+use saves::{Flavour, Plan, Rng, narrow, save};
 use std::hint::black_box;
 
 #[derive(Clone, Copy, Debug, PartialEq, Eq)]
@@ -25,13 +25,25 @@ impl Side {
 pub enum Task {
     Read,
     Skip,
+    Normalise,
+    Fast,
 }
 
 impl Task {
+    const ALL: [Task; 4] = [Task::Read, Task::Skip, Task::Normalise, Task::Fast];
+
+    /// Colours are not fast.
+    fn flavours(self) -> [Flavour; 4] {
+        let last = if self == Task::Fast { Flavour::Compact } else { Flavour::Mixture };
+        [Flavour::ShortNumbers, Flavour::LongStrings, Flavour::DeepNesting, last]
+    }
+
     pub fn name(self) -> &'static str {
         match self {
             Task::Read => "read",
             Task::Skip => "skip",
+            Task::Normalise => "normalise",
+            Task::Fast => "fast step",
         }
     }
 }
@@ -43,48 +55,85 @@ pub struct Work {
     pub flavour: Flavour,
 }
 
-const FLAVOURS: [Flavour; 4] = [Flavour::ShortNumbers, Flavour::LongStrings, Flavour::DeepNesting, Flavour::Mixture];
 const SIZE: usize = 1 << 20;
 const LONGEST_TEXT: usize = 500;
+/// The original's shortest window for the fast step.
+const WINDOW: usize = 16;
 
 impl Work {
     pub fn all() -> impl Iterator<Item = Work> {
-        [Task::Read, Task::Skip].into_iter().flat_map(|task| FLAVOURS.map(|flavour| Work { task, flavour }))
+        Task::ALL.into_iter().flat_map(|task| task.flavours().map(|flavour| Work { task, flavour }))
     }
 
-    /// For skipping, the save stands in a container whose Open is read already.
+    /// For skipping, the save stands in a container whose Open is read already; to have a normal form, it has no wide
+    /// lookups.
     pub fn input(self) -> Vec<u8> {
         let mut rng = Rng::new(self.flavour as u64);
         let mut bytes = save(Plan { flavour: self.flavour, size: SIZE, longest_text: LONGEST_TEXT }, &mut rng);
-        if self.task == Task::Skip {
-            bytes.extend([4, 0]);
+        match self.task {
+            Task::Skip => bytes.extend([4, 0]),
+            Task::Normalise => narrow(&mut bytes),
+            Task::Read | Task::Fast => {}
         }
         bytes
     }
 }
 
-/// The port's answer and the original's are the same, at the end of the input.
-pub fn agreed(work: Work, bytes: &[u8]) -> bool {
-    let answers = Side::ALL.map(|side| measured(side, work.task, bytes));
-    answers[0] == answers[1] && answers[0].code == code::ANSWERED && answers[0].words[0] == bytes.len() as u64
+/// Room for any normal form.
+pub fn output() -> Vec<u8> {
+    vec![0; 6 * SIZE]
+}
+
+/// The port's answer and output and the original's are the same, and all of the input is done.
+pub fn agreed(work: Work, bytes: &[u8], out: &mut [u8]) -> bool {
+    let [port, original] = Side::ALL.map(|side| {
+        let answer = measured(side, work.task, bytes, out);
+        (answer, out.to_vec())
+    });
+    let (Answer { code, words }, _) = port;
+    let end = bytes.len() as u64;
+    let done = match work.task {
+        Task::Read | Task::Skip => words[0] == end,
+        Task::Normalise => words[0] >= end,
+        Task::Fast => words[0] + (WINDOW as u64) > end,
+    };
+    port == original && code == code::ANSWERED && done
 }
 
 /// Not taken apart by the compiler, and found by its name: only what runs in here is counted.
 #[unsafe(no_mangle)]
 #[inline(never)]
-pub fn stivlaheim_bench_measured(side: Side, task: Task, bytes: &[u8]) -> Answer {
+pub fn stivlaheim_bench_measured(side: Side, task: Task, bytes: &[u8], out: &mut [u8]) -> Answer {
     match (side, task) {
         (Side::Port, Task::Read) => port::answer(|words| port::count_tokens(bytes, words)),
         (Side::Port, Task::Skip) => port::answer(|words| port::lex(bytes, 0, Call::SkipContainer, words)),
+        (Side::Port, Task::Normalise) => port::answer(|words| port::normalise(bytes, out, words)),
+        (Side::Port, Task::Fast) => port_steps(bytes),
         (Side::Original, Task::Read) => original::count_tokens(bytes),
         (Side::Original, Task::Skip) => original::skip_container(bytes),
+        (Side::Original, Task::Normalise) => original::normalise(bytes, out),
+        (Side::Original, Task::Fast) => original::step_fast(bytes),
     }
 }
 
-pub fn measured(side: Side, task: Task, bytes: &[u8]) -> Answer {
-    black_box(stivlaheim_bench_measured(side, task, black_box(bytes)))
+/// A call of the C function for each step; what is held is looked at, as on the other side.
+fn port_steps(bytes: &[u8]) -> Answer {
+    let mut held = [0; 8];
+    let mut words = [0; WORDS];
+    let (mut at, mut count, mut seen) = (0, 0, 0u64);
+    while port::next_token_fast(&bytes[at..], &mut held, &mut words) == code::ANSWERED {
+        at += words[0] as usize;
+        count += 1;
+        seen = seen.wrapping_add(u64::from_le_bytes(held)).wrapping_add(words[1]);
+    }
+    black_box(seen);
+    Answer::found(at, &[count])
+}
+
+pub fn measured(side: Side, task: Task, bytes: &[u8], out: &mut [u8]) -> Answer {
+    black_box(stivlaheim_bench_measured(side, task, black_box(bytes), black_box(out)))
 }
 
 pub fn once(side: Side, work: Work) {
-    measured(side, work.task, &work.input());
+    measured(side, work.task, &work.input(), &mut output());
 }

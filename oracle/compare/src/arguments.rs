@@ -2,25 +2,28 @@
 
 use std::path::PathBuf;
 
-const USAGE: &str = "compare [--cases N] [--seed S] [--record FILE]
+const USAGE: &str = "compare [--cases N] [--seed S] [--programs N] [--record FILE]
   --cases N      generated saves (default 10000)
   --seed S       what they are made from (default 1)
+  --programs N   only run the programs dump and normal, on N generated saves
   --record FILE  only write a sample of the original's answers to FILE";
 
 pub struct Arguments {
     pub cases: usize,
     pub seed: u64,
+    pub programs: Option<usize>,
     pub record: Option<PathBuf>,
 }
 
 impl Arguments {
     pub fn read(mut words: impl Iterator<Item = String>) -> Result<Arguments, &'static str> {
-        let mut arguments = Arguments { cases: 10_000, seed: 1, record: None };
+        let mut arguments = Arguments { cases: 10_000, seed: 1, programs: None, record: None };
         while let Some(word) = words.next() {
             let value = words.next().ok_or(USAGE)?;
             match word.as_str() {
                 "--cases" => arguments.cases = value.parse().map_err(|_| USAGE)?,
                 "--seed" => arguments.seed = value.parse().map_err(|_| USAGE)?,
+                "--programs" => arguments.programs = Some(value.parse().map_err(|_| USAGE)?),
                 "--record" => arguments.record = Some(value.into()),
                 _ => return Err(USAGE),
             }

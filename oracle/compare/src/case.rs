@@ -19,6 +19,11 @@ pub trait Case: Sized {
         None
     }
 
+    /// What the original does instead, for a listed difference.
+    fn original(&self) -> Option<String> {
+        None
+    }
+
     /// Simpler questions near this one.
     fn smaller(&self) -> impl Iterator<Item = Self>;
 
@@ -40,7 +45,7 @@ pub trait Ask {
 /// What stands in the lent list before a call.
 const LENT: u64 = 0x5ea1_ed00_5ea1_ed00;
 /// More than the port may fill.
-const ROOM: usize = WORDS + 2;
+pub const ROOM: usize = WORDS + 2;
 
 /// A code, and the lent list after the call with what lies beyond the answer.
 #[derive(Clone, Copy, Debug, PartialEq, Eq)]
@@ -52,8 +57,13 @@ pub struct Seen {
 impl Seen {
     /// `room` words of the list are handed over.
     pub fn of_port(case: &impl Ask, room: usize) -> Seen {
+        Seen::of(room, |answer| case.ask(answer))
+    }
+
+    #[inline]
+    pub fn of(room: usize, ask: impl FnOnce(&mut [u64]) -> u32) -> Seen {
         let mut words = [LENT; ROOM];
-        let code = case.ask(&mut words[..room]);
+        let code = ask(&mut words[..room]);
         Seen { code, words }
     }
 

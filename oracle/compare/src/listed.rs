@@ -1,23 +1,44 @@
 //! Where the port differs from the original on purpose.
 
 use crate::run::Run;
-use crate::subjects::{Lex, Text};
-use protocol::Call;
+use crate::subjects::{Fast, Lex, Text, Write};
+use protocol::{Call, Token};
 
 #[derive(Clone, Copy, Debug, PartialEq, Eq)]
 pub enum Listed {
     CursorPastInput,
     TextPastInput,
+    BadTextPlace,
+    LongString,
+    WideLookup,
+    ReservedId,
+    NoRoom,
+    ShortWindow,
 }
 
 impl Listed {
-    pub const ALL: [Listed; 2] = [Listed::CursorPastInput, Listed::TextPastInput];
+    pub const ALL: [Listed; 8] = [
+        Listed::CursorPastInput,
+        Listed::TextPastInput,
+        Listed::BadTextPlace,
+        Listed::LongString,
+        Listed::WideLookup,
+        Listed::ReservedId,
+        Listed::NoRoom,
+        Listed::ShortWindow,
+    ];
 
     /// As docs/DIFFERENCES.md has it.
     pub fn name(self) -> &'static str {
         match self {
             Listed::CursorPastInput => "cursor-past-input",
             Listed::TextPastInput => "text-past-input",
+            Listed::BadTextPlace => "bad-text-place",
+            Listed::LongString => "long-string",
+            Listed::WideLookup => "wide-lookup",
+            Listed::ReservedId => "reserved-id",
+            Listed::NoRoom => "no-room",
+            Listed::ShortWindow => "short-window",
         }
     }
 
@@ -25,6 +46,12 @@ impl Listed {
         match self {
             Listed::CursorPastInput => "the original's cursor is the rest of its slice and cannot be past it",
             Listed::TextPastInput => "the original's token holds its text and cannot name bytes that are not there",
+            Listed::BadTextPlace => "the original's token holds its text and is always written",
+            Listed::LongString => "the original writes the low two bytes of the length, and all of the text",
+            Listed::WideLookup => "the original writes the low three bytes",
+            Listed::ReservedId => "the original writes the id, which reads as another token",
+            Listed::NoRoom => "the original writes what fits, and fails",
+            Listed::ShortWindow => "the original's caller does not take the step; if taken, it may panic",
         }
     }
 }
@@ -36,6 +63,15 @@ pub fn show(run: &mut Run) {
         match listed {
             Listed::CursorPastInput => run.show(&Lex::new(&[1, 2], 9, Call::ReadId)),
             Listed::TextPastInput => run.show(&Text::new(&[1, 2], 1, 2)),
+            Listed::BadTextPlace => run.show(&Write::new(&[], 7, &[0, 1, 0, 0, 0], 5)),
+            Listed::LongString => run.show(&Write::token(&Token::Quoted(vec![0; 65_536]), 65_540)),
+            Listed::WideLookup => run.show(&Write::token(&Token::Lookup(1 << 24), 5)),
+            Listed::ReservedId => run.show(&Write::token(&Token::Id(1), 2)),
+            Listed::NoRoom => run.show(&Write::token(&Token::U32(7), 5)),
+            Listed::ShortWindow => {
+                run.show(&Fast::new(&[0; 8], &[]));
+                run.show(&Fast::new(&[0; 8], &[1, 0]));
+            }
         }
     }
 }

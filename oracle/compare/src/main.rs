@@ -2,6 +2,8 @@
 
 mod arguments;
 mod case;
+mod dump;
+mod lent;
 mod listed;
 mod record;
 mod run;
@@ -25,17 +27,27 @@ fn main() -> ExitCode {
     if let Some(file) = &arguments.record {
         return record::record(file, arguments.seed);
     }
-    println!("seed {}, {} generated saves", arguments.seed, arguments.cases);
     let mut run = Run::new();
     let mut rng = Rng::new(arguments.seed);
-    listed::show(&mut run);
-    stages::specimens(&mut run);
-    stages::all_kinds(&mut run);
-    stages::splits(&mut run);
-    stages::short_lists(&mut run);
-    stages::all_ids(&mut run);
-    stages::all_short_inputs(&mut run);
-    stages::boundary(&mut run, &mut rng);
-    stages::generated(&mut run, &mut rng, arguments.cases);
+    match arguments.programs {
+        Some(cases) => stages::programs(&mut run, &mut rng, cases),
+        None => calls(&mut run, &mut rng, &arguments),
+    }
     if run.finish() { ExitCode::SUCCESS } else { ExitCode::FAILURE }
+}
+
+fn calls(run: &mut Run, rng: &mut Rng, arguments: &Arguments) {
+    println!("seed {}, {} generated saves", arguments.seed, arguments.cases);
+    listed::show(run);
+    stages::specimens(run);
+    stages::all_kinds(run);
+    stages::splits(run);
+    stages::short_lists(run);
+    stages::all_ids(run);
+    stages::all_short_inputs(run);
+    stages::boundary(run, rng);
+    stages::generated(run, rng, arguments.cases);
+    stages::writing(run, rng);
+    stages::fast(run, rng);
+    stages::whole(run, rng, arguments.cases);
 }

@@ -35,6 +35,9 @@ impl Run {
     /// Checks, and prints question and answer.
     pub fn show<C: Case>(&mut self, case: &C) {
         println!("  {} => {}", case.request(), case.show(&case.port()));
+        if let Some(original) = case.original() {
+            println!("  the original: {original}");
+        }
         self.check(case);
     }
 

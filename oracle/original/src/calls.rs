@@ -90,7 +90,7 @@ fn weight(token: Token) -> u64 {
     }
 }
 
-fn refusal(error: LexerError, after: usize) -> Answer {
+pub(crate) fn refusal(error: LexerError, after: usize) -> Answer {
     let code = match error.kind() {
         LexError::Eof => code::EOF,
         LexError::InvalidRgb => code::INVALID_RGB,

@@ -11,13 +11,13 @@ mod write;
 
 use shims::{Error, ReaderError, ReaderErrorKind, decode_windows1252};
 
-pub use binary::reader::fast::{Fast, next_token_fast};
+pub use binary::reader::fast::{FAST_WINDOW, Fast, next_token_fast, step_fast};
 pub use calls::{count_tokens, is_id, kind, lex, skip_container, split, text};
 pub use counted::LARGEST_COUNT;
 pub use requests::answer_request;
 pub use scalar::Scalar;
 pub use source::window::Window;
-pub use write::write;
+pub use write::{normalise, reads_back, spelling, tokens, write};
 
 /// Where the files are from.
 pub const ORIGIN: &str = env!("JOMINI_ORIGIN");

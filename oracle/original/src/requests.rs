@@ -1,7 +1,7 @@
 //! The original's answers to requests.
 
-use crate::{Window, calls, next_token_fast, write};
-use protocol::{KINDS, Op, Request, Source, hex, kind_line, lex_line, source_line, split_line};
+use crate::{FAST_WINDOW, Window, calls, next_token_fast, write};
+use protocol::{Answer, Op, Request, Source, fast_line, kind_line, lex_line, output_line, source_line, split_line};
 
 /// Nothing where the original has no such call, or cannot stand there.
 pub fn answer_request(request: &Request) -> Option<String> {
@@ -12,20 +12,22 @@ pub fn answer_request(request: &Request) -> Option<String> {
         Request::Write { room, token } => {
             let mut out = vec![0; *room];
             let count = write(token, &mut out)?;
-            Some(format!("ok {count} {}", hex(&out[..count])))
+            Some(output_line(&Answer::found(count, &[]), &out))
         }
-        Request::Fast { held, window } => Some(fast_line(*held, window)),
+        Request::Fast { held, window } => Some(stepped(*held, window)),
         Request::Source { source, ops } => source_lines(source, ops),
         Request::Dump { .. } | Request::Normal { .. } => None,
     }
 }
 
-fn fast_line(held: [u8; 8], window: &[u8]) -> String {
-    let fast = next_token_fast(held, window);
-    match fast.token {
-        Some((kind, length)) => format!("fast {} {length} {}", KINDS[kind as usize], hex(&fast.held)),
-        None => "slow".to_string(),
+/// Below the shortest window its own caller does not take the step.
+fn stepped(held: [u8; 8], window: &[u8]) -> String {
+    if window.len() < FAST_WINDOW {
+        return fast_line(&Answer::none(0), &held);
     }
+    let fast = next_token_fast(held, window);
+    let answer = fast.token.map_or(Answer::none(0), |(kind, length)| Answer::found(length, &[kind.into()]));
+    fast_line(&answer, &fast.held)
 }
 
 fn source_lines(source: &Source, ops: &[Op]) -> Option<String> {

@@ -3,13 +3,19 @@
 //! Each function here lends the port an answer list of the caller's choosing and gives its code back, so that what the
 //! port leaves alone can be seen too; `answer` is for callers who want the eight words only.
 
+mod fast;
 mod lexer;
 mod requests;
+mod saves;
 mod split;
+mod writer;
 
+pub use fast::next_token_fast;
 pub use lexer::{count_tokens, is_id, kind, lex, text};
 pub use requests::{PENDING, answer_request};
+pub use saves::{list, normalise};
 pub use split::split;
+pub use writer::write;
 
 use protocol::{Answer, WORDS};
 

@@ -1,20 +1,52 @@
 //! The port's answers to requests.
 
-use crate::{answer, is_id, kind, lex, split};
-use protocol::{Request, kind_line, lex_line, split_line};
+use crate::{answer, is_id, kind, lex, list, next_token_fast, normalise, split, write};
+use protocol::{Answer, Request, Token, code, dump_line, fast_line, kind_line, lex_line, output_line, split_line};
 
 /// The requests whose C functions do not exist yet, by their first word.
-pub const PENDING: [&str; 5] = ["write", "dump", "normal", "fast", "source"];
+pub const PENDING: [&str; 1] = ["source"];
+
+/// No answer fills more, and no output is made longer.
+const LARGEST: usize = 1 << 30;
 
 pub fn answer_request(request: &Request) -> String {
     match request {
         Request::Kind(id) => kind_line(kind(*id), is_id(*id)),
         Request::Split { bytes, count } => split_line(bytes, &answer(|words| split(bytes, *count, words))),
         Request::Lex { bytes, at, call } => lex_line(bytes, *call, &answer(|words| lex(bytes, *at, *call, words))),
-        Request::Write { .. }
-        | Request::Dump { .. }
-        | Request::Normal { .. }
-        | Request::Fast { .. }
-        | Request::Source { .. } => "pending".to_string(),
+        Request::Write { room, token } => written(*room, token),
+        Request::Dump { bytes } => dumped(bytes),
+        Request::Normal { room, bytes } => {
+            let (answer, out) = lending(*room, |out, words| normalise(bytes, out, words));
+            output_line(&answer, &out)
+        }
+        Request::Fast { held, window } => {
+            let mut held = *held;
+            let answer = answer(|words| next_token_fast(window, &mut held, words));
+            fast_line(&answer, &held)
+        }
+        Request::Source { .. } => "pending".to_string(),
     }
+}
+
+fn lending(room: usize, call: impl FnOnce(&mut [u8], &mut [u64]) -> u32) -> (Answer, Vec<u8>) {
+    let mut out = vec![0; room.min(LARGEST)];
+    let answer = answer(|words| call(&mut out, words));
+    (answer, out)
+}
+
+fn written(room: usize, token: &Token) -> String {
+    let (kind, words) = token.words();
+    let (answer, out) = lending(room, |out, answer| write(token.text(), kind, &words, out, answer));
+    output_line(&answer, &out)
+}
+
+/// Asked twice: for its length, and with room for it.
+fn dumped(bytes: &[u8]) -> String {
+    let (asked, out) = lending(0, |out, words| list(bytes, out, words));
+    if asked.code != code::NO_ROOM {
+        return dump_line(&asked, &out);
+    }
+    let (answer, out) = lending(asked.words[1] as usize, |out, words| list(bytes, out, words));
+    dump_line(&answer, &out)
 }

@@ -2,7 +2,7 @@
 
 pub const WORDS: usize = 8;
 
-/// The refusals' numbers, and three more that are none of the paper's.
+/// The refusals' numbers, and four more that are none of the paper's.
 pub mod code {
     pub const ANSWERED: u32 = 0;
     pub const EOF: u32 = 1;
@@ -15,6 +15,8 @@ pub mod code {
     pub const TOO_LONG: u32 = 8;
     pub const NONE: u32 = 9;
     pub const SHORT_ANSWER: u32 = 100;
+    /// Words that are no token, or held bytes that are not eight.
+    pub const BAD_ARGUMENT: u32 = 101;
 }
 
 /// Word 0 is the cursor after the call, the others hold the value or what the refusal carries.

@@ -3,8 +3,7 @@
 use crate::{Answer, Call, KINDS, Shape, code, hex};
 
 pub fn kind_line(kind: u32, is_id: bool) -> String {
-    let name = KINDS.get(kind as usize).copied().unwrap_or("unknown");
-    format!("{name} {}", if is_id { "plain" } else { "reserved" })
+    format!("{} {}", kind_name(kind.into()), if is_id { "plain" } else { "reserved" })
 }
 
 pub fn split_line(bytes: &[u8], answer: &Answer) -> String {
@@ -27,6 +26,39 @@ pub fn lex_line(bytes: &[u8], call: Call, answer: &Answer) -> String {
         code::BAD_PLACE => format!("badplace {refused}"),
         code => format!("err {} {refused} at {at}", refusal(code)),
     }
+}
+
+/// A writer's answer, with what it put into the lent output.
+pub fn output_line(answer: &Answer, out: &[u8]) -> String {
+    let [count, refused, ..] = answer.words;
+    match answer.code {
+        code::ANSWERED => format!("ok {count} {}", hex(part(out, 0, count))),
+        code::BAD_PLACE => format!("badplace {refused}"),
+        code => format!("err {} {refused}", refusal(code)),
+    }
+}
+
+/// The dump in one line.
+pub fn dump_line(answer: &Answer, out: &[u8]) -> String {
+    match answer.code {
+        code::ANSWERED => {
+            String::from_utf8_lossy(part(out, 0, answer.words[0])).trim_end_matches('\n').replace('\n', " | ")
+        }
+        _ => output_line(answer, out),
+    }
+}
+
+pub fn fast_line(answer: &Answer, held: &[u8]) -> String {
+    let [length, kind, ..] = answer.words;
+    match answer.code {
+        code::ANSWERED => format!("fast {} {length} {}", kind_name(kind), hex(held)),
+        code::NONE => "slow".to_string(),
+        code => format!("err {}", refusal(code)),
+    }
+}
+
+fn kind_name(kind: u64) -> &'static str {
+    KINDS.get(kind as usize).copied().unwrap_or("unknown")
 }
 
 pub(crate) fn refusal(code: u32) -> String {

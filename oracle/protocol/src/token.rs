@@ -15,6 +15,17 @@ pub struct Colour {
 }
 
 impl Colour {
+    /// Nothing where the words are no colour.
+    pub fn of_words([r, g, b, has_alpha, alpha]: [u64; 5]) -> Option<Colour> {
+        let channel = |word: u64| u32::try_from(word).ok();
+        let a = match has_alpha {
+            0 => None,
+            1 => Some(channel(alpha)?),
+            _ => return None,
+        };
+        Some(Colour { r: channel(r)?, g: channel(g)?, b: channel(b)?, a })
+    }
+
     pub fn words(&self) -> [u64; 5] {
         let alpha = self.a.map_or([0, 0], |a| [1, u64::from(a)]);
         [self.r.into(), self.g.into(), self.b.into(), alpha[0], alpha[1]]
@@ -38,4 +49,36 @@ pub enum Token {
     I64(i64),
     Lookup(u32),
     Id(u16),
+}
+
+impl Token {
+    /// The kind's number, and the value's words; a string's text stands at the front of the bytes.
+    pub fn words(&self) -> (u32, [u64; 5]) {
+        let one = |word: u64| [word, 0, 0, 0, 0];
+        match self {
+            Token::Open => (0, one(0)),
+            Token::Close => (1, one(0)),
+            Token::Equal => (2, one(0)),
+            Token::U32(x) => (3, one((*x).into())),
+            Token::U64(x) => (4, one(*x)),
+            Token::I32(x) => (5, one(i64::from(*x).cast_unsigned())),
+            Token::Bool(x) => (6, one((*x).into())),
+            Token::Quoted(text) => (7, [0, text.len() as u64, 0, 0, 0]),
+            Token::Unquoted(text) => (8, [0, text.len() as u64, 0, 0, 0]),
+            Token::F32(x) => (9, one(u32::from_le_bytes(*x).into())),
+            Token::F64(x) => (10, one(u64::from_le_bytes(*x))),
+            Token::Rgb(colour) => (11, colour.words()),
+            Token::I64(x) => (12, one(x.cast_unsigned())),
+            Token::Lookup(x) => (13, one((*x).into())),
+            Token::Id(x) => (14, one((*x).into())),
+        }
+    }
+
+    /// A string's text; of other tokens, nothing.
+    pub fn text(&self) -> &[u8] {
+        match self {
+            Token::Quoted(text) | Token::Unquoted(text) => text,
+            _ => &[],
+        }
+    }
 }

@@ -3,9 +3,11 @@
 mod damage;
 mod flavour;
 mod ids;
+mod narrow;
 mod rng;
 
 pub use damage::{bad_colour, flip, random_bytes, random_ids};
 pub use flavour::{Flavour, Plan, save, token};
 pub use ids::{Payload, RESERVED, payload};
+pub use narrow::narrow;
 pub use rng::Rng;

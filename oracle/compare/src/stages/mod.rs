@@ -2,14 +2,22 @@
 
 mod boundary;
 mod exhaustive;
+mod fast;
 mod generated;
+mod programs;
 mod short_lists;
 mod specimens;
 mod sweep;
+mod whole;
+mod writing;
 
 pub use boundary::boundary;
 pub use exhaustive::{all_ids, all_kinds, all_short_inputs, splits};
+pub use fast::fast;
 pub use generated::generated;
+pub use programs::programs;
 pub use short_lists::short_lists;
 pub use specimens::{SPECIMENS, specimens};
 pub use sweep::plain_calls;
+pub use whole::whole;
+pub use writing::writing;

@@ -2,8 +2,9 @@
 
 use super::sweep::plain_calls;
 use crate::case::{Ask, Case};
+use crate::lent::Lend;
 use crate::run::Run;
-use crate::subjects::{Count, Lex, Short, Split, Text};
+use crate::subjects::{Count, Dump, Fast, Lex, Normal, Short, ShortLent, Split, Text, Write};
 use protocol::{Call, WORDS};
 
 pub fn short_lists(run: &mut Run) {
@@ -16,10 +17,25 @@ pub fn short_lists(run: &mut Run) {
     too_short(run, &Split { bytes: bytes.to_vec(), count: 2 });
     too_short(run, &Text::new(&bytes, 1, 2));
     too_short(run, &Count::new(&bytes));
+    for room in [0, 5, 60] {
+        lent_too_short(run, &Write::new(&bytes, 7, &[1, 2, 0, 0, 0], room));
+        lent_too_short(run, &Write::new(&bytes, 7, &[9, 2, 0, 0, 0], room));
+        lent_too_short(run, &Write::new(&bytes, 15, &[], room));
+        lent_too_short(run, &Normal::new(&bytes, room));
+        lent_too_short(run, &Dump::new(&bytes, room));
+    }
+    lent_too_short(run, &Fast::new(&[9; 8], &[0x14; 16]));
+    lent_too_short(run, &Fast::new(&[9; 7], &[0x14; 2]));
 }
 
 fn too_short<C: Case + Ask>(run: &mut Run, case: &C) {
     for room in 0..WORDS {
         run.check(&Short { case, room });
+    }
+}
+
+fn lent_too_short<C: Case + Lend>(run: &mut Run, case: &C) {
+    for room in 0..WORDS {
+        run.check(&ShortLent { case, room });
     }
 }

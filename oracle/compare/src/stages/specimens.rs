@@ -2,8 +2,10 @@
 
 use super::sweep::every_place;
 use crate::case::Case;
+use crate::dump::dump;
 use crate::run::Run;
-use protocol::Request;
+use crate::subjects::Normal;
+use protocol::{Request, output_line};
 
 /// Request and answer, one specimen a line.
 pub const SPECIMENS: &str = include_str!("specimens.txt");
@@ -39,7 +41,7 @@ impl Case for Specimen {
 
     fn port(&self) -> [String; 2] {
         let (request, answer) = self.parts();
-        let original = original::answer_request(&request).expect("the original has the call");
+        let original = original_line(&request);
         let port = if self.pending() { answer.to_string() } else { port::answer_request(&request) };
         [original, port]
     }
@@ -54,6 +56,18 @@ impl Case for Specimen {
 
     fn show(&self, [original, port]: &[String; 2]) -> String {
         format!("{port} (the original: {original})")
+    }
+}
+
+/// The original has no normal form and no dump: they are made from its tokens.
+fn original_line(request: &Request) -> String {
+    match request {
+        Request::Normal { room, bytes } => {
+            let seen = Normal::new(bytes, *room).expected();
+            output_line(&seen.seen.answer(), seen.lent())
+        }
+        Request::Dump { bytes } => dump(bytes).trim_end().replace('\n', " | "),
+        _ => original::answer_request(request).expect("the original has the call"),
     }
 }
 

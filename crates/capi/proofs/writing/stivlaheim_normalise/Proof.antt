@@ -1,5 +1,4 @@
 -- `capi::writing::stivlaheim_normalise` meets its contract. Assumes nothing.
-use mathlib.Core.Path.{refl}
 use borrow.Author.Tests.{le-leb, lt-leb}
 use Rattle.capi.proofs.Laws.{too-short}
 use borrow.Author.Needs.{needs}

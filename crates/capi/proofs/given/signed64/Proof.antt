@@ -1,0 +1,31 @@
+-- `capi::given::signed64` meets its contract. Assumes nothing.
+use mathlib.Core.Path.{refl}
+use Prim.Native.Nat.{_-_}
+use native.Mathlib.Omega.{arith}
+use mir.Syntax.{w64}
+use Rattle.payload.proofs.Signed.{less-fits, high-half}
+use borrow.Author.Needs.{needs}
+use Rattle.capi.proofs.given.signed64.Statement.{statement}
+use Rattle.capi.proofs.given.signed64.Tie as tie
+
+cast-result : tie.Need-cast-result
+cast-result c = search needs
+
+sub-result : tie.Need-sub-result
+sub-result c = search needs
+
+cast-result-2 : tie.Need-cast-result-2
+cast-result-2 c = search needs
+
+sub-result-2 : tie.Need-sub-result-2
+sub-result-2 c = less-fits w64 (18446744073709551615 - c .before .args .x) (omega arith)
+
+returns : tie.Need-returns
+returns c = refl
+
+returns-2 : tie.Need-returns-2
+returns-2 c = high-half w64 (c .before .args .x) (18446744073709551615 - c .before .args .x) (c .if1 .left) (omega arith) (omega arith)
+
+pub signed64-spec : {M : Type 1} → statement M
+signed64-spec =
+    tie.close (tie.spec cast-result sub-result cast-result-2 sub-result-2 returns returns-2)

@@ -1,0 +1,161 @@
+// A token that a caller hands over: its kind's number, and the words of what it holds.
+ghost use mathlib.Core.Path.{_≡_};
+ghost use Prim.Native.Nat.{_≤_};
+ghost use lib.ListN.{length};
+ghost use mir.Syntax.{w64};
+ghost use mir.Val.{toZ};
+ghost use Rattle.token.specs.declared.Token.the-variants as T;
+ghost use Rattle.capi.specs.Given.{givenOf, numberToken, smallToken, boolToken, colourToken, kindToken};
+use payload::Alpha;
+use payload::Rgb;
+use payload::Text;
+use token::Token;
+
+pub enum Given {
+    Token(Token),
+    Nothing,
+}
+
+fn u32_token(x: u64) -> Given
+    ensures { λ r. ⌜ givenOf r ≡ numberToken 4294967295 T.U32 x ⌝ }
+{
+    if 0xffff_ffff < x {
+        return Given::Nothing;
+    }
+    Given::Token(Token::U32(x as u32))
+}
+
+fn f32_token(x: u64) -> Given
+    ensures { λ r. ⌜ givenOf r ≡ numberToken 4294967295 T.F32 x ⌝ }
+{
+    if 0xffff_ffff < x {
+        return Given::Nothing;
+    }
+    Given::Token(Token::F32(x as u32))
+}
+
+fn lookup_token(x: u64) -> Given
+    ensures { λ r. ⌜ givenOf r ≡ numberToken 4294967295 T.Lookup x ⌝ }
+{
+    if 0xffff_ffff < x {
+        return Given::Nothing;
+    }
+    Given::Token(Token::Lookup(x as u32))
+}
+
+fn id_token(x: u64) -> Given
+    ensures { λ r. ⌜ givenOf r ≡ numberToken 65535 T.Id x ⌝ }
+{
+    if 0xffff < x {
+        return Given::Nothing;
+    }
+    Given::Token(Token::Id(x as u16))
+}
+
+fn bool_token(x: u64) -> Given
+    ensures { λ r. ⌜ givenOf r ≡ boolToken x ⌝ }
+{
+    if 1 < x {
+        return Given::Nothing;
+    }
+    Given::Token(Token::Bool(x == 1))
+}
+
+// Signed numbers: two's complement of 64 bits.
+fn i32_token(x: u64) -> Given
+    ensures { λ r. ⌜ givenOf r ≡ smallToken (toZ w64 x) ⌝ }
+{
+    if x < 0x8000_0000 {
+        let low = x as i32;
+        return Given::Token(Token::I32(low));
+    }
+    if x < 0xffff_ffff_8000_0000 {
+        return Given::Nothing;
+    }
+    let lacks = (0xffff_ffff_ffff_ffff - x) as i32;
+    let high = -1 - lacks;
+    Given::Token(Token::I32(high))
+}
+
+fn signed64(x: u64) -> i64
+    ensures { λ r. ⌜ r ≡ toZ w64 x ⌝ }
+{
+    if x < 0x8000_0000_0000_0000 {
+        x as i64
+    } else {
+        -1 - (0xffff_ffff_ffff_ffff - x) as i64
+    }
+}
+
+// An alpha is looked at where it is said to be there.
+fn rgb_token(r: u64, g: u64, b: u64, has: u64, a: u64) -> Given
+    ensures { λ x. ⌜ givenOf x ≡ colourToken r g b has a ⌝ }
+{
+    if 0xffff_ffff < r {
+        return Given::Nothing;
+    }
+    if 0xffff_ffff < g {
+        return Given::Nothing;
+    }
+    if 0xffff_ffff < b {
+        return Given::Nothing;
+    }
+    if 1 < has {
+        return Given::Nothing;
+    }
+    let red = r as u32;
+    let green = g as u32;
+    let blue = b as u32;
+    if has == 0 {
+        return Given::Token(Token::Rgb(Rgb {
+            r: red,
+            g: green,
+            b: blue,
+            a: Alpha::Absent,
+        }));
+    }
+    if 0xffff_ffff < a {
+        return Given::Nothing;
+    }
+    let alpha = a as u32;
+    Given::Token(Token::Rgb(Rgb {
+        r: red,
+        g: green,
+        b: blue,
+        a: Alpha::Given(alpha),
+    }))
+}
+
+fn text(start: u64, len: u64) -> Text
+    ensures { λ r. ⌜ r ≡ record { start = start; len = len } ⌝ }
+{
+    Text {
+        start: start as usize,
+        len: len as usize,
+    }
+}
+
+pub(crate) fn of_words(kind: u32, words: &[u64]) -> Given
+    requires { ⌜ 5 ≤ length (now words) ⌝ }
+    ensures { λ r. ⌜ givenOf r ≡ kindToken kind (now (words .entry)) ⌝ }
+{
+    let x = words[0];
+    match kind {
+        0 => Given::Token(Token::Open),
+        1 => Given::Token(Token::Close),
+        2 => Given::Token(Token::Equal),
+        3 => u32_token(x),
+        4 => Given::Token(Token::U64(x)),
+        5 => i32_token(x),
+        6 => bool_token(x),
+        7 => Given::Token(Token::Quoted(text(x, words[1]))),
+        8 => Given::Token(Token::Unquoted(text(x, words[1]))),
+        9 => f32_token(x),
+        10 => Given::Token(Token::F64(x)),
+        11 => rgb_token(x, words[1], words[2], words[3], words[4]),
+        12 => Given::Token(Token::I64(signed64(x))),
+        13 => lookup_token(x),
+        14 => id_token(x),
+        _ => Given::Nothing,
+    }
+}

@@ -1,0 +1,75 @@
+-- What a call makes of the answer of another. Assumes nothing.
+use mathlib.Core.Path.{_≡_, refl, sym, ap, _∙_}
+use mathlib.Core.Bool.{Bool, true, false, _&&_}
+use mathlib.Core.Option.{none, some}
+use mathlib.Core.List.{List, []}
+use Prim.Native.Nat.{ℕ, _+_, _≤_, _<_}
+use native.Mathlib.Omega.{arith}
+use lib.Dec.{leb}
+use lib.ListN.{length, take, drop}
+use borrow.Author.Tests.{le-leb, lt-leb}
+use Rattle.form.specs.Numbers.{pick}
+use Rattle.form.specs.Refusals.{Fault}
+use Rattle.form.specs.Readers.{found, refused}
+use Rattle.payload.specs.declared.answers.Text.{Text}
+use Rattle.source.specs.declared.ParserSource.{ParserSource}
+use Rattle.source.specs.declared.answers.Stop.{Stop}
+use Rattle.source.specs.declared.answers.Tried.the-variants as Y
+use Rattle.source.specs.Window.{past, Step, gives, andThen, _then_, optional, textAt, heldIn, textIn, ensured, taken, tried, peeked}
+use Rattle.source.specs.Answers.{stopAnswer, triedAnswer, isEof, orNothing}
+
+-- what was asked for, by the answer that was found
+pub gotOf : {E A : Type 0} (answer : E → List ℕ → Step A) {r t : E} {buffer : List ℕ} {a : Step A} → answer r buffer ≡ a → r ≡ t → a ≡ answer t buffer
+gotOf answer {buffer = buffer} p q = sym p ∙ ap (λ e. answer e buffer) q
+
+-- and by the refusal that `stop` has taken out
+pub elseOf : {E A : Type 0} (answer : E → List ℕ → Step A) (stopOf : E → Stop) {r t : E} {buffer : List ℕ} {a : Step A} {x : Stop}
+    → answer r buffer ≡ a → r ≡ t → x ≡ stopOf r → answer t buffer ≡ stopAnswer (stopOf t) buffer → a ≡ stopAnswer x buffer
+elseOf answer stopOf {buffer = buffer} p q h d =
+    gotOf answer p q ∙ d ∙ ap (λ (y : Stop). stopAnswer y buffer) (sym (h ∙ ap stopOf q))
+
+-- the part of a text, within the bytes that hold the window and beyond them
+module _ (supply : List ℕ) (t : Text) (s : ParserSource) (buffer : List ℕ) where
+  pub text-within : t .start + t .len ≤ length (heldIn supply s buffer) → textIn supply t s buffer ≡ take (t .len) (drop (t .start) (heldIn supply s buffer))
+  text-within h = rw (le-leb _ _ h)
+
+  pub text-beyond : length (heldIn supply s buffer) < t .start + t .len → textIn supply t s buffer ≡ []
+  text-beyond h = rw (lt-leb _ _ h)
+
+-- a refusal, for the optional forms
+pub or-nothing : (x : Stop) (buffer : List ℕ) → optional (stopAnswer x buffer) ≡ triedAnswer (orNothing x) buffer
+unfolding optional
+or-nothing x buffer = by (isEof (x .error) && leb (x .next .end) (x .next .start))
+  where
+    by : (b : Bool) → pick b (gives none (x .next) buffer) (stopAnswer x buffer) ≡ triedAnswer (pick b (Y.Nothing (x .next)) (Y.Refused x)) buffer
+    by true = refl
+    by false = refl
+
+module _ (supply schedule : List ℕ) (n : ℕ) (s : ParserSource) (buffer : List ℕ) where
+  pub taken-ready : {t : ParserSource} {b : List ℕ} → ensured supply schedule n s buffer ≡ gives tt t b → taken supply schedule n s buffer ≡ gives (textAt (t .start) n) (past n t) b
+  unfolding taken _then_ andThen
+  taken-ready e = rw e
+
+  pub taken-stop : (x : Stop) {b : List ℕ} → ensured supply schedule n s buffer ≡ stopAnswer x b → taken supply schedule n s buffer ≡ stopAnswer x b
+  unfolding taken _then_ andThen
+  taken-stop x e = rw e
+
+  pub tried-got : {t : Text} {u : ParserSource} {b : List ℕ} → taken supply schedule n s buffer ≡ gives t u b → tried supply schedule n s buffer ≡ gives (some t) u b
+  unfolding tried optional
+  tried-got e = rw e
+
+  pub tried-stop : (x : Stop) {b : List ℕ} → taken supply schedule n s buffer ≡ stopAnswer x b → tried supply schedule n s buffer ≡ triedAnswer (orNothing x) b
+  unfolding tried
+  tried-stop x {b} e = ap optional e ∙ or-nothing x b
+
+  pub peeked-ready : {t : ParserSource} {b : List ℕ} → ensured supply schedule n s buffer ≡ gives tt t b → peeked supply schedule n s buffer ≡ gives (some (textAt (t .start) n)) t b
+  unfolding peeked _then_ andThen optional
+  peeked-ready e = rw e
+
+  pub peeked-stop : (x : Stop) {b : List ℕ} → ensured supply schedule n s buffer ≡ stopAnswer x b → peeked supply schedule n s buffer ≡ triedAnswer (orNothing x) b
+  unfolding peeked _then_ andThen
+  peeked-stop x {b} e = ap (λ (y : Step (Unit {0})). optional (andThen y (λ _ t c. gives (textAt (t .start) n) t c))) e ∙ or-nothing x b
+
+-- a number that is there is not refused
+pub found-not-refused : {A B : Type 0} {a : B} {n : ℕ} {e : Fault} → found a n ≡ refused e → A
+found-not-refused h = let z : _≡_ {A = ℕ} 0 1 = cc in absurd (omega arith)

@@ -1,0 +1,12 @@
+pub mod Stores
+pub mod Filling
+pub mod States
+pub mod Cases
+pub mod Laws
+pub mod Through
+pub mod Kept
+pub mod Conserve
+pub mod Steady
+pub mod Specimens
+pub mod Unique
+pub mod HandsOver

@@ -1,0 +1,74 @@
+-- `source::ParserSource::read_ending` meets its contract. Assumes nothing.
+use mathlib.Core.Path.{refl, sym, _∙_}
+use denote.Ref.{now}
+use Rattle.source.specs.Answers.{idAnswer, idStop}
+use Rattle.source.proofs.Laws.{gotOf, elseOf}
+use Rattle.source.proofs.Through.{ending-stop, ending-close, ending-alpha, ending-other}
+use borrow.Author.Needs.{needs}
+use Rattle.source.proofs.ParserSource.read_ending.Statement.{statement}
+use Rattle.source.proofs.ParserSource.read_ending.Tie as tie
+
+read-lexeme-id-requires : tie.Need-read-lexeme-id-requires
+read-lexeme-id-requires c κs = search needs
+
+enum-known-last : tie.Need-enum-known-last
+enum-known-last c = search needs
+
+enum-told : tie.Need-enum-told
+enum-told c = search needs
+
+stop-requires : tie.Need-stop-requires
+stop-requires c κs = search needs
+
+same-length : tie.Need-same-length
+same-length c = search needs
+
+returns : tie.Need-returns
+returns c =
+    let a = c .before .before .before .before .before .before .before .before .before .before .args in
+    sym (ending-stop (now (a .supply)) (now (a .schedule)) (a .self) (now (a .buffer)) (a .r) (a .g) (a .b) (c .stop .result) (elseOf idAnswer idStop (c .before .before .before .before .before .read-lexeme-id .ensures) (c .before .enum-told .given .1) (c .stop .ensures) refl))
+
+read-alpha-requires : tie.Need-read-alpha-requires
+read-alpha-requires c κs = search needs
+
+same-length-2 : tie.Need-same-length-2
+same-length-2 c = search needs
+
+returns-2 : tie.Need-returns-2
+returns-2 c =
+    let a = c .before .before .before .before .before .before .before .before .before .before .before .args in
+    sym (ending-close (now (a .supply)) (now (a .schedule)) (a .self) (now (a .buffer)) (a .r) (a .g) (a .b) (gotOf idAnswer (c .before .before .before .before .before .before .read-lexeme-id .ensures) (c .before .before .last .given .1)) (c .match2 .keys1))
+
+same-length-3 : tie.Need-same-length-3
+same-length-3 c = search needs
+
+returns-3 : tie.Need-returns-3
+returns-3 c =
+    let a = c .before .before .before .before .before .before .before .before .before .before .before .before .before .before .before .args in
+    c .before .before .read-alpha .ensures ∙ sym (ending-alpha (now (a .supply)) (now (a .schedule)) (a .self) (now (a .buffer)) (a .r) (a .g) (a .b) (gotOf idAnswer (c .before .before .before .before .before .before .before .before .before .before .read-lexeme-id .ensures) (c .before .before .before .before .before .before .last .given .1)) (c .before .before .before .before .match2 .keys2))
+
+same-length-4 : tie.Need-same-length-4
+same-length-4 c = search needs
+
+returns-4 : tie.Need-returns-4
+returns-4 c =
+    let a = c .before .before .before .before .before .before .before .before .before .before .before .args in
+    sym (ending-other (now (a .supply)) (now (a .schedule)) (a .self) (now (a .buffer)) (a .r) (a .g) (a .b) (gotOf idAnswer (c .before .before .before .before .before .before .read-lexeme-id .ensures) (c .before .before .last .given .1)) (c .match2 .rest .0 .1) (c .match2 .rest .1))
+
+pub read-ending-spec : {M : Type 1} → statement M
+read-ending-spec =
+    tie.close
+    (tie.spec
+    read-lexeme-id-requires
+    enum-known-last
+    enum-told
+    stop-requires
+    same-length
+    returns
+    read-alpha-requires
+    same-length-2
+    returns-2
+    same-length-3
+    returns-3
+    same-length-4
+    returns-4)

@@ -1,0 +1,73 @@
+-- `source::ParserSource::read_text` meets its contract. Assumes nothing.
+use mathlib.Core.Path.{sym, ap, _∙_}
+use denote.Ref.{now}
+use Prim.Native.Nat.{_+_}
+use native.Mathlib.Omega.{arith}
+use Rattle.source.specs.declared.ParserSource.{ParserSource}
+use Rattle.source.specs.Window.{gives, textAt}
+use Rattle.source.specs.Answers.{ensuredAnswer}
+use Rattle.source.proofs.Cases.{ready}
+use Rattle.source.proofs.Laws.{gotOf}
+use Rattle.source.proofs.Through.{string-of-got, string-of-stop}
+use borrow.Author.Needs.{needs}
+use Rattle.source.proofs.ParserSource.read_text.Statement.{statement}
+use Rattle.source.proofs.ParserSource.read_text.Tie as tie
+
+add-whole : tie.Need-add-whole
+add-whole c = search needs
+
+ensure-bytes-requires : tie.Need-ensure-bytes-requires
+ensure-bytes-requires c κs = search needs
+
+enum-known-e : tie.Need-enum-known-e
+enum-known-e c = search needs
+
+add-start : tie.Need-add-start
+add-start c =
+    let a = c .before .before .before .before .before .before .before .before .before .before .before .args in
+    let w = ready (now (a .supply)) (now (a .schedule)) (a .self) (now (a .buffer)) (2 + a .len) (gotOf ensuredAnswer (c .before .before .before .before .before .before .ensure-bytes .ensures) (c .before .before .e .given .1)) in
+    omega (arith, w .good, w .there)
+
+past-requires : tie.Need-past-requires
+past-requires c κs =
+    let a = c .before .before .before .before .before .before .before .before .before .before .before .args in
+    let w = ready (now (a .supply)) (now (a .schedule)) (a .self) (now (a .buffer)) (2 + a .len) (gotOf ensuredAnswer (c .before .before .before .before .before .before .ensure-bytes .ensures) (c .before .before .e .given .1)) in
+    (omega (arith, w .good, w .there), omega (arith, w .good, w .there))
+
+enum-known-e-2 : tie.Need-enum-known-e-2
+enum-known-e-2 c = search needs
+
+same-length : tie.Need-same-length
+same-length c = search needs
+
+returns : tie.Need-returns
+returns c =
+    let a = c .before .before .before .before .before .before .before .before .before .before .before .before .args in
+    let o = c .before .before .before .before .before .before .before .ensure-bytes in
+    let e = c .before .before .before .e .given in
+    ap (λ (s : ParserSource). gives (textAt (e .0 .0 .start + 2) (a .len)) s (o .last .1 .1 .0)) (c .past .ensures)
+    ∙ sym (string-of-got (now (a .supply)) (now (a .schedule)) (a .self) (now (a .buffer)) (a .len) (gotOf ensuredAnswer (o .ensures) (e .1)))
+
+same-length-2 : tie.Need-same-length-2
+same-length-2 c = search needs
+
+returns-2 : tie.Need-returns-2
+returns-2 c =
+    let a = c .before .before .before .before .before .before .before .before .before .before .args in
+    let e = c .before .e2 .given in
+    sym (string-of-stop (now (a .supply)) (now (a .schedule)) (a .self) (now (a .buffer)) (a .len) (e .0 .0) (gotOf ensuredAnswer (c .before .before .before .before .before .ensure-bytes .ensures) (e .1)))
+
+pub read-text-spec : {M : Type 1} → statement M
+read-text-spec =
+    tie.close
+    (tie.spec
+    add-whole
+    ensure-bytes-requires
+    enum-known-e
+    add-start
+    past-requires
+    enum-known-e-2
+    same-length
+    returns
+    same-length-2
+    returns-2)

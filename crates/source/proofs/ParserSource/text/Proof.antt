@@ -1,0 +1,70 @@
+-- `source::ParserSource::text` meets its contract. Assumes nothing.
+use mathlib.Core.Path.{_≡_, sym, ap, _∙_}
+use Prim.Native.Nat.{ℕ, _+_, _-_}
+use native.Mathlib.Omega.{arith}
+use denote.Ref.{now}
+use mathlib.Core.List.{List}
+use lib.ListN.{length, take, drop}
+use borrow.Author.Needs.{needs}
+use Rattle.source.proofs.Laws.{text-within, text-beyond}
+use Rattle.source.proofs.ParserSource.text.Statement.{statement}
+use Rattle.source.proofs.ParserSource.text.Tie as tie
+
+held-in-requires : tie.Need-held-in-requires
+held-in-requires c κs = search needs
+
+slice-aggregate-result : tie.Need-slice-aggregate-result
+slice-aggregate-result c = search needs
+
+returns : tie.Need-returns
+returns c =
+    let a = c .before .before .before .before .before .args in
+    sym (text-beyond (now (a .supply)) (a .text) (a .self) (now (a .buffer)) (omega (arith, ap length (c .before .before .held-in .ensures), c .before .if1 .taken)))
+
+sub-if2 : tie.Need-sub-if2
+sub-if2 c = search needs
+
+slice-aggregate-result-2 : tie.Need-slice-aggregate-result-2
+slice-aggregate-result-2 c = search needs
+
+returns-2 : tie.Need-returns-2
+returns-2 c =
+    let a = c .before .before .before .before .before .before .args in
+    sym (text-beyond (now (a .supply)) (a .text) (a .self) (now (a .buffer)) (omega (arith, ap length (c .before .before .before .held-in .ensures), c .before .if2 .taken)))
+
+add-end : tie.Need-add-end
+add-end c = search needs
+
+sub-result : tie.Need-sub-result
+sub-result c = search needs
+
+part-result-start : tie.Need-part-result-start
+part-result-start c = search needs
+
+part-result-end : tie.Need-part-result-end
+part-result-end c = search needs
+
+returns-3 : tie.Need-returns-3
+returns-3 c =
+    let a = c .before .before .before .before .before .before .args in
+    let h = c .before .before .before .held-in .ensures in
+    let k : a .text .start + a .text .len - a .text .start ≡ a .text .len = omega arith in
+    ap (λ (n : ℕ). take n (drop (a .text .start) (c .before .before .before .held-in .result .now))) k
+    ∙ ap (λ (l : List ℕ). take (a .text .len) (drop (a .text .start) l)) h
+    ∙ sym (text-within (now (a .supply)) (a .text) (a .self) (now (a .buffer)) (omega (arith, ap length h, c .before .before .if1 .left, c .before .if2 .left)))
+
+pub text-spec : {M : Type 1} → statement M
+text-spec =
+    tie.close
+    (tie.spec
+    held-in-requires
+    slice-aggregate-result
+    returns
+    sub-if2
+    slice-aggregate-result-2
+    returns-2
+    add-end
+    sub-result
+    part-result-start
+    part-result-end
+    returns-3)

@@ -1,0 +1,49 @@
+-- Runs of stores, `sets`: a turn of a loop that copies, its end, and how two runs compose. Assumes nothing.
+use mathlib.Core.Path.{_≡_, refl, sym, ap, _∙_}
+use mathlib.Core.List.{List, [], _∷_, _++_}
+use Prim.Native.Nat.{ℕ, zero, suc, _+_, _-_, _≤_, _<_}
+use native.Mathlib.Nat.{not-suc-le-zero, add-zero, add-suc, suc-add}
+use native.Mathlib.Numerals.{add-one, sub-one}
+use native.Mathlib.Omega.{arith}
+use lib.ListN.{length, take, drop, getD, set, length-drop}
+use lib.Seq.{sets, sets-eq, drop-cons, drop-drop, drop-set-lt, take-at, take-add, length-take-le}
+
+-- two runs, one after the other, are one run
+sets-append : (a b l : List ℕ) (i : ℕ) → sets (sets l i a) (i + length a) b ≡ sets l i (a ++ b)
+sets-append [] b l i = ap (λ (k : ℕ). sets l k b) (add-zero i)
+sets-append (x ∷ a) b l i =
+    ap (λ (k : ℕ). sets (sets (set l i x) (suc i) a) k b) (add-suc i (length a) ∙ sym (suc-add i (length a)))
+    ∙ sets-append a b (set l i x) (suc i)
+
+-- the same, where the second begins at a place that is given otherwise
+pub sets-then : (a b l : List ℕ) (i j : ℕ) → j ≡ i + length a → sets (sets l i a) j b ≡ sets l i (a ++ b)
+sets-then a b l i j h = ap (λ (k : ℕ). sets (sets l i a) k b) h ∙ sets-append a b l i
+
+-- what was stored at the front is there
+pub take-sets : (l a : List ℕ) (n : ℕ) → length a ≡ n → n ≤ length l → take n (sets l 0 a) ≡ a
+take-sets l a n e h = ap (take n) (sets-eq a l 0 (omega arith)) ∙ take-at a (drop (0 + length a) l) n e
+
+-- a part within a list has the length that is asked
+pub part-length : (s : List ℕ) (start len : ℕ) → start + len ≤ length s → length (take len (drop start s)) ≡ len
+part-length s start len h = length-take-le len (drop start s) (simp length-drop (omega arith))
+
+-- a part, and the part after it
+pub part-add : (s : List ℕ) (start n m : ℕ) → take n (drop start s) ++ take m (drop (start + n) s) ≡ take (n + m) (drop start s)
+part-add s start n m = rw (take-add n m (drop start s), drop-drop n start s)
+
+-- a turn that copies a byte
+pub part-step : (out s : List ℕ) (i j left : ℕ) → 0 < left → j < length s
+    → sets (set out i (getD s j 0)) (i + 1) (take (left - 1) (drop (j + 1) s)) ≡ sets out i (take left (drop j s))
+part-step out s i j zero h k = absurd (not-suc-le-zero h)
+part-step out s i j (suc l) h k = rw (drop-cons s j 0 k, add-one i, add-one j, sub-one)
+
+pub part-done : (out rest : List ℕ) (i left : ℕ) → left ≤ 0 → out ≡ sets out i (take left rest)
+part-done out rest i zero h = refl
+part-done out rest i (suc l) h = absurd (not-suc-le-zero h)
+
+-- a turn that moves a byte of the list itself towards the front: what is still to be moved stands behind the byte that is written
+pub slide-step : (l : List ℕ) (i j left : ℕ) → 0 < left → i ≤ j → j < length l
+    → sets (set l i (getD l j 0)) (i + 1) (take (left - 1) (drop (j + 1) (set l i (getD l j 0)))) ≡ sets l i (take left (drop j l))
+slide-step l i j left h o k =
+    ap (λ (r : List ℕ). sets (set l i (getD l j 0)) (i + 1) (take (left - 1) r)) (drop-set-lt (j + 1) l i (getD l j 0) (omega arith))
+    ∙ part-step l l i j left h k

@@ -1,0 +1,32 @@
+-- `source::binary::spelled16` meets its contract. Assumes nothing.
+use mathlib.Core.Path.{sym, ap, _∙_}
+use denote.Ref.{now}
+use Rattle.form.proofs.Places.{took, num-there}
+use Rattle.payload.specs.Answers.{u16Answer}
+use Rattle.source.proofs.Laws.{found-not-refused}
+use borrow.Author.Needs.{needs}
+use Rattle.source.proofs.binary.spelled16.Statement.{statement}
+use Rattle.source.proofs.binary.spelled16.Tie as tie
+
+read-lookup-u16-requires : tie.Need-read-lookup-u16-requires
+read-lookup-u16-requires c κs = search needs
+
+enum-known-r : tie.Need-enum-known-r
+enum-known-r c = search needs
+
+enum-told : tie.Need-enum-told
+enum-told c = search needs
+
+returns : tie.Need-returns
+returns c =
+    let a = c .before .before .before .before .before .args in
+    took 2 (now (a .bytes)) (a .at) (sym (c .before .before .before .read-lookup-u16 .ensures) ∙ ap u16Answer (c .before .r .given .1)) .value
+
+returns-2 : tie.Need-returns-2
+returns-2 c =
+    let s = c .before .before .before .before in
+    found-not-refused (sym (num-there 2 (now (s .args .bytes)) (s .args .at) (s .pre)) ∙ sym (c .before .before .read-lookup-u16 .ensures) ∙ ap u16Answer (c .enum-told .given .1))
+
+pub spelled16-spec : {M : Type 1} → statement M
+spelled16-spec =
+    tie.close (tie.spec read-lookup-u16-requires enum-known-r enum-told returns returns-2)

@@ -1,0 +1,197 @@
+-- The window: what each call answers, the state that it leaves and every byte of the buffer.
+use Prim.Native.Nat.{ℕ, _+_, _-_}
+use mathlib.Core.Bool.{Bool, true, false, _&&_}
+use mathlib.Core.Option.{Option, none, some}
+use mathlib.Core.List.{List, [], _++_}
+use lib.ListN.{length, take, drop}
+use lib.Seq.{sets}
+use lib.Dec.{leb, ltb, eqb}
+use Rattle.form.specs.Numbers.{pick}
+use Rattle.form.specs.Refusals.{Refusal, Eof, BufferTooSmall, ReadFailed, BadPlace, refusalNumber}
+use Rattle.source.specs.declared.ParserSource.{ParserSource}
+use Rattle.source.specs.declared.Check.{Check}
+use Rattle.source.specs.declared.Check.the-variants.{Fine, Bad}
+use Rattle.source.specs.declared.reads.Reads.{Reads}
+use Rattle.payload.specs.declared.answers.Text.{Text}
+use Rattle.source.specs.Reads.{one, fill}
+
+-- ---- the state
+
+-- nothing is read
+abbrev pub newStream : ParserSource
+newStream = record { start = 0; end = 0; supply = 0; schedule = 0; position = 0; streaming = true }
+
+-- all n bytes of the supply are handed over, and the window lies in the supply itself
+abbrev pub newSlice : ℕ → ParserSource
+newSlice n = record { start = 0; end = n; supply = n; schedule = 0; position = 0; streaming = false }
+
+-- how many bytes are unread
+abbrev pub unread : ParserSource → ℕ
+unread s = s .end - s .start
+
+-- the unread bytes, in the bytes that hold them
+abbrev pub unreadIn : ParserSource → List ℕ → List ℕ
+unreadIn s held = take (unread s) (drop (s .start) held)
+
+-- the first number of a state that does not fit, where the window lies in so many bytes, with a supply and a schedule so long
+unfoldable pub checked : ParserSource → ℕ → ℕ → ℕ → Check
+checked s held supply schedule =
+    pick (ltb (s .end) (s .start)) (Bad (s .start))
+    (pick (ltb held (s .end)) (Bad (s .end))
+    (pick (ltb supply (s .supply)) (Bad (s .supply))
+    (pick (ltb schedule (s .schedule)) (Bad (s .schedule))
+    (pick (ltb 0xffff_ffff_ffff_ffff (s .position + unread s + (supply - s .supply))) (Bad (s .position)) Fine))))
+
+-- n of the unread bytes are read
+abbrev pub past : ℕ → ParserSource → ParserSource
+past n s = record {
+  start = s .start + n;
+  end = s .end;
+  supply = s .supply;
+  schedule = s .schedule;
+  position = s .position + n;
+  streaming = s .streaming;
+}
+
+-- the unread bytes are at the front, and behind them what reads gave
+abbrev pub landed : ParserSource → Reads → ParserSource
+landed s r = record {
+  start = 0;
+  end = unread s + r .got;
+  supply = s .supply + r .got;
+  schedule = s .schedule + r .used;
+  position = s .position;
+  streaming = s .streaming;
+}
+
+-- ---- calls
+
+-- what a call answers, or why it refuses; the state that it leaves; and the buffer
+pub data Step (A : Type 0) : Type 0 where
+  gives : A → ParserSource → List ℕ → Step A
+  refuses : Refusal → ParserSource → List ℕ → Step A
+
+-- from a state and a buffer
+abbrev pub Call : Type 0 → Type 0
+Call A = ParserSource → List ℕ → Step A
+
+unfoldable pub andThen : {A B : Type 0} → Step A → (A → Call B) → Step B
+andThen (gives a s buffer) f = f a s buffer
+andThen (refuses r s buffer) f = refuses r s buffer
+
+-- a call, and then what g says; where it refuses, that is the end
+infixr 20 _then_
+unfoldable pub _then_ : {A B : Type 0} → Call A → (A → Call B) → Call B
+_then_ f g s buffer = andThen (f s buffer) g
+
+unfoldable pub ifFine : {A : Type 0} → Check → ParserSource → List ℕ → Step A → Step A
+ifFine Fine s buffer x = x
+ifFine (Bad p) s buffer x = refuses (BadPlace p) s buffer
+
+-- a part of the bytes; empty where the call is refused
+unfoldable pub ifGiven : {A : Type 0} → Step A → List ℕ → List ℕ
+ifGiven (gives a s buffer) part = part
+ifGiven (refuses r s buffer) part = []
+
+-- refused for Eof with no byte unread: there is nothing
+unfoldable pub optional : {A : Type 0} → Step A → Step (Option A)
+optional (gives a s buffer) = gives (some a) s buffer
+optional (refuses r s buffer) = pick (eqb (refusalNumber r) 1 && leb (s .end) (s .start)) (gives none s buffer) (refuses r s buffer)
+
+-- n bytes from a place
+abbrev pub textAt : ℕ → ℕ → Text
+textAt start n = record { start = start; len = n }
+
+-- ---- over a supply
+
+module _ (supply : List ℕ) where
+  -- the bytes that hold the window: of a stream the buffer, of a slice the supply
+  abbrev pub heldIn : ParserSource → List ℕ → List ℕ
+  heldIn s buffer = pick (s .streaming) buffer supply
+
+  -- the unread bytes
+  abbrev pub window : ParserSource → List ℕ → List ℕ
+  window s buffer = unreadIn s (heldIn s buffer)
+
+  -- the buffer where reads gave r: the unread bytes, those of the supply, and then the bytes that were there
+  abbrev pub landedIn : ParserSource → Reads → List ℕ → List ℕ
+  landedIn s r buffer = sets buffer 0 (unreadIn s buffer ++ take (r .got) (drop (s .supply) supply))
+
+  -- what was moved and read stays, also where a read failed or too little came
+  unfoldable pub toppedBy : ℕ → ParserSource → List ℕ → Reads → Step (Unit {0})
+  toppedBy n s buffer r =
+      pick (r .failed) (refuses (ReadFailed (s .position)) (landed s r) (landedIn s r buffer))
+      (pick (leb n (unread s + r .got)) (gives tt (landed s r) (landedIn s r buffer)) (refuses (Eof (s .position)) (landed s r) (landedIn s r buffer)))
+
+  unfoldable pub onceBy : ParserSource → List ℕ → Reads → Step ℕ
+  onceBy s buffer r =
+      pick (r .failed) (refuses (ReadFailed (s .position)) (landed s r) (landedIn s r buffer)) (gives (r .got) (landed s r) (landedIn s r buffer))
+
+  -- the bytes of a text; none where it does not lie within those that hold the window
+  abbrev pub textIn : Text → ParserSource → List ℕ → List ℕ
+  textIn t s buffer = pick (leb (t .start + t .len) (length (heldIn s buffer))) (take (t .len) (drop (t .start) (heldIn s buffer))) []
+
+  -- the part that an answer hands over: empty where there is nothing or it is refused
+  unfoldable pub takenPart : Step Text → List ℕ
+  takenPart (gives t s buffer) = textIn t s buffer
+  takenPart (refuses r s buffer) = []
+
+  unfoldable pub triedPart : Step (Option Text) → List ℕ
+  triedPart (gives (some t) s buffer) = textIn t s buffer
+  triedPart (gives none s buffer) = []
+  triedPart (refuses r s buffer) = []
+
+-- ---- over a supply and a schedule
+
+module _ (supply schedule : List ℕ) where
+  abbrev pub checkedIn : ParserSource → List ℕ → Check
+  checkedIn s buffer = checked s (length (heldIn supply s buffer)) (length supply) (length schedule)
+
+  -- a state that does not fit is refused before anything else, and nothing is moved
+  unfoldable pub fitting : {A : Type 0} → Call A → Call A
+  fitting f s buffer = ifFine (checkedIn s buffer) s buffer (f s buffer)
+
+  -- `refill_slow` of a stream
+  unfoldable pub topped : ℕ → Call (Unit {0})
+  topped n s buffer = toppedBy supply n s buffer (fill (length buffer - unread s) (length supply - s .supply) (drop (s .schedule) schedule))
+
+  -- `ensure_bytes`
+  unfoldable pub ensured : ℕ → Call (Unit {0})
+  ensured n =
+      fitting (λ s buffer. pick (leb n (unread s)) (gives tt s buffer)
+      (pick (s .streaming) (pick (leb n (length buffer)) (topped n s buffer) (refuses (BufferTooSmall (s .position)) s buffer))
+      (refuses (Eof (s .position)) s buffer)))
+
+  -- one read of a stream
+  unfoldable pub once : Call ℕ
+  once s buffer = onceBy supply s buffer (one (length buffer - unread s) (length supply - s .supply) (drop (s .schedule) schedule))
+
+  -- `refill`
+  unfoldable pub refilled : Call ℕ
+  refilled =
+      fitting (λ s buffer. pick (s .streaming) (pick (leb (length buffer) (unread s)) (refuses (BufferTooSmall (s .position)) s buffer) (once s buffer))
+      (gives 0 s buffer))
+
+  -- `advance`
+  unfoldable pub advanced : ℕ → Call Bool
+  advanced n = fitting (λ s buffer. pick (leb n (unread s)) (gives true (past n s) buffer) (gives false s buffer))
+
+  -- `window_len`
+  unfoldable pub windowLen : Call ℕ
+  windowLen = fitting (λ s buffer. gives (unread s) s buffer)
+
+  -- `window`: empty where the state is refused
+  unfoldable pub windowOf : ParserSource → List ℕ → List ℕ
+  windowOf s buffer = ifGiven (windowLen s buffer) (window supply s buffer)
+
+  -- `take` and `take_bytes`
+  unfoldable pub taken : ℕ → Call Text
+  taken n = ensured n then (λ _ s buffer. gives (textAt (s .start) n) (past n s) buffer)
+
+  -- `try_take` and `try_take_bytes`
+  unfoldable pub tried : ℕ → Call (Option Text)
+  tried n s buffer = optional (taken n s buffer)
+
+  -- `peek`
+  unfoldable pub peeked : ℕ → Call (Option Text)
+  peeked n s buffer = optional ((ensured n then (λ _ t b. gives (textAt (t .start) n) t b)) s buffer)

@@ -1,0 +1,139 @@
+//! The normal form and the dump of whole saves, and the fast step along them.
+
+use crate::dump::dump;
+use crate::run::Run;
+use crate::subjects::{Dump, Fast, Limit, Normal, normal_form};
+use saves::{Flavour, Plan, Rng, bad_colour, flip, narrow, random_bytes, random_ids, save};
+
+pub fn whole(run: &mut Run, rng: &mut Rng, cases: usize) {
+    few_bytes(run);
+    for flavour in Flavour::ALL {
+        large(run, rng, flavour);
+    }
+    for case in 0..cases {
+        if case % 64 == 0 {
+            run.progress("whole saves", case, cases);
+        }
+        one(run, rng, case);
+    }
+    limits(run);
+}
+
+/// All inputs of up to two bytes, and each two with some after them.
+fn few_bytes(run: &mut Run) {
+    one_save(run, &[]);
+    for first in 0..=u8::MAX {
+        one_save(run, &[first]);
+    }
+    for id in 0..=u16::MAX {
+        let [first, second] = id.to_le_bytes();
+        one_save(run, &[first, second]);
+        one_save(run, &[first, second, 1, 0, 4, 0, first, second, 1, 0, 3, 0, first, second, 1, 0]);
+    }
+}
+
+/// Some hundred thousand bytes, with and without wide lookups.
+fn large(run: &mut Run, rng: &mut Rng, flavour: Flavour) {
+    let mut bytes = save(Plan { flavour, size: 100_000, longest_text: 70_000 }, rng);
+    one_save(run, &bytes);
+    narrow(&mut bytes);
+    one_save(run, &bytes);
+}
+
+fn one(run: &mut Run, rng: &mut Rng, case: usize) {
+    let flavour = Flavour::ALL[case / 8 % Flavour::ALL.len()];
+    match case % 8 {
+        0 => whole_and_cut(run, &small(rng, flavour)),
+        1 => whole_and_cut(run, &narrowed(small(rng, flavour))),
+        2 => damaged(run, rng, flavour),
+        3 => whole_and_cut(run, &bad_colour(rng)),
+        4 => after_a_save(run, rng, flavour),
+        5 => one_save(run, &random_bytes(rng, 64)),
+        6 => one_save(run, &random_ids(rng, 64)),
+        _ => middling(run, rng, flavour),
+    }
+    let bytes = small(rng, flavour);
+    along(run, rng, &bytes);
+}
+
+fn small(rng: &mut Rng, flavour: Flavour) -> Vec<u8> {
+    let size = rng.below(96);
+    save(Plan { flavour, size, longest_text: 12 }, rng)
+}
+
+fn narrowed(mut bytes: Vec<u8>) -> Vec<u8> {
+    narrow(&mut bytes);
+    bytes
+}
+
+fn whole_and_cut(run: &mut Run, bytes: &[u8]) {
+    for len in 0..=bytes.len() {
+        one_save(run, &bytes[..len]);
+    }
+}
+
+fn damaged(run: &mut Run, rng: &mut Rng, flavour: Flavour) {
+    let bytes = narrowed(small(rng, flavour));
+    for _ in 0..8 {
+        let mut bytes = bytes.clone();
+        flip(rng, &mut bytes);
+        one_save(run, &bytes);
+    }
+}
+
+/// Ends too many, then a save and a spoilt colour.
+fn after_a_save(run: &mut Run, rng: &mut Rng, flavour: Flavour) {
+    let closes = [4, 0].repeat(rng.below(3));
+    let bytes = [narrowed(small(rng, flavour)), closes.clone(), narrowed(small(rng, flavour))].concat();
+    one_save(run, &bytes);
+    one_save(run, &[closes, bytes, bad_colour(rng)].concat());
+}
+
+/// Some thousand bytes, whole, damaged, and cut somewhere.
+fn middling(run: &mut Run, rng: &mut Rng, flavour: Flavour) {
+    let size = rng.below(2000);
+    let mut bytes = narrowed(save(Plan { flavour, size, longest_text: 400 }, rng));
+    one_save(run, &bytes);
+    flip(rng, &mut bytes);
+    bytes.truncate(bytes.len() - rng.below(bytes.len().min(8) + 1));
+    one_save(run, &bytes);
+}
+
+/// Without room, with a byte too few, with just enough, and with one more.
+fn one_save(run: &mut Run, bytes: &[u8]) {
+    let form = normal_form(bytes).map_or(bytes.len(), |form| form.len());
+    for room in rooms(form) {
+        run.check(&Normal::new(bytes, room));
+    }
+    for room in rooms(dump(bytes).len()) {
+        run.check(&Dump::new(bytes, room));
+    }
+}
+
+fn rooms(need: usize) -> impl Iterator<Item = usize> {
+    let below = [0, need.saturating_sub(1)];
+    below.into_iter().take(need.min(2)).chain([need, need + 1])
+}
+
+/// The step at each token, with all that follows as the window, and with a window that ends soon after.
+fn along(run: &mut Run, rng: &mut Rng, bytes: &[u8]) {
+    let bytes = [bytes, &[1, 0].repeat(8)].concat();
+    for (at, _) in original::tokens(&bytes).0 {
+        let held = rng.number().to_le_bytes();
+        run.check(&Fast::new(&held, &bytes[at..]));
+        let end = bytes.len().min(at + 14 + rng.below(12));
+        run.check(&Fast::new(&held, &bytes[at..end]));
+    }
+}
+
+/// The longest save, of texts that fill their length so that few pages of it are looked at, and one byte more.
+fn limits(run: &mut Run) {
+    const TEXT: usize = 65_532;
+    let mut bytes = vec![0; Limit::LONGEST + 1];
+    for at in (0..Limit::LONGEST).step_by(4 + TEXT) {
+        bytes[at..at + 4].copy_from_slice(&[0x0f, 0, 0xfc, 0xff]);
+    }
+    run.check(&Limit::normalise(&bytes[..Limit::LONGEST]));
+    run.check(&Limit::normalise(&bytes));
+    run.check(&Limit::list(&bytes));
+}
