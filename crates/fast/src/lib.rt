@@ -122,7 +122,7 @@ fn by_id(window: &[u8], id: LexemeId, held: [u8; 8]) -> FastToken
         number::BOOL => copy(window, TokenKind::Bool, 1, held),
         number::QUOTED => string(window, TokenKind::Quoted, held),
         number::UNQUOTED | number::STR_SAV03 => string(window, TokenKind::Unquoted, held),
-        number::EMPTY_STRING => alone(TokenKind::Quoted, zeros),
+        number::EMPTY_STRING => alone(TokenKind::Quoted, [0u8; 8]),
         number::RGB => slow(held),
         number::LOOKUP_U8 | number::LOOKUP_U8_ALT | number::LOOKUP_U8_SAV03 => copy(
             window,

@@ -15,7 +15,7 @@ use Rattle.form.specs.Reading.{num, string, rgb, payload}
 use Rattle.form.proofs.Places.{at-giving, by-id, num-there, token-then}
 use Rattle.lexeme.specs.declared.LexemeId.{LexemeId}
 use Rattle.payload.specs.Answers.{why, idAnswer, textOf, colourOf, alphaOf}
-use Rattle.payload.specs.Compact.{signedBy}
+use Rattle.payload.specs.Compact.{least7, signedBy, compact}
 use Rattle.payload.specs.declared.answers.Text.{Text}
 use Rattle.payload.specs.declared.answers.Alpha.{Alpha}
 use Rattle.payload.specs.declared.answers.Alpha.the-variants.{Absent, Given}
@@ -28,21 +28,16 @@ use Rattle.token.specs.Texts.{lies}
 use Rattle.token.specs.declared.Token.{Token}
 use Rattle.token.specs.declared.Token.the-variants as T
 
--- ---- a `let .. else` on a payload's answer
+-- ---- a `let .. else` on a payload's answer, whose token h makes by the place after it
 
--- b has the token that h makes of what a has, by the place after it
-pub record Made {A : Type 0} (h : ℕ → A → Token) (a : Answer A) (b : Answer Token) : Type 0 where
-  pub law : b ≡ placed h a
-
-module _ {E A : Type 0} (answer : E → Answer A) {h : ℕ → A → Token} {a : Answer A} {b : Answer Token} (m : Made h a b)
-    {r t : E} (p : answer r ≡ a) (q : r ≡ t) where
-  pub getting : {x : A} {n : ℕ} → answer t ≡ found x n → found (h n x) n ≡ b
+module _ {E A : Type 0} (answer : E → Answer A) (h : ℕ → A → Token) {r t : E} (q : r ≡ t) where
+  pub getting : {x : A} {n : ℕ} → answer t ≡ found x n → found (h n x) n ≡ placed h (answer r)
   unfolding placed
-  getting e = sym (m .law ∙ ap (placed h) (gotOf answer p q ∙ e))
+  getting e = sym (ap (λ (y : E). placed h (answer y)) q ∙ ap (placed h) e)
 
-  pub refusing : {f : Fault} → f ≡ why (answer r) → answer t ≡ refused (why (answer t)) → refused f ≡ b
+  pub refusing : {f : Fault} → f ≡ why (answer r) → answer t ≡ refused (why (answer t)) → refused f ≡ placed h (answer r)
   unfolding placed
-  refusing e d = sym (m .law ∙ ap (placed h) (elseOf answer p q e d))
+  refusing e d = sym (ap (placed h) (elseOf answer refl q e d))
 
 -- ---- the token of each payload, by what its read answers
 
@@ -57,27 +52,34 @@ module _ (s : List ℕ) (p : ℕ) where
   numbers w f = ap (placed tokenOf) (at-giving (num w) f s p) ∙ placed-mapped f tokenOf (at (num w) s p)
 
   -- of the number itself
-  pub number-at : (w : ℕ) (f : ℕ → F.Value) → Made (λ e n. tokenOf e (f n)) (at (num w) s p) (payloadAt (number w f) s p)
-  number-at w f = record { law = numbers w f }
+  pub number-at : (w : ℕ) (f : ℕ → F.Value) {a : Answer ℕ} {b : Answer Token}
+      → a ≡ at (num w) s p → b ≡ placed (λ e n. tokenOf e (f n)) a → b ≡ payloadAt (number w f) s p
+  number-at w f k l = l ∙ ap (placed (λ e n. tokenOf e (f n))) k ∙ sym (numbers w f)
 
   -- of what g makes of the number
-  pub through-at : {A : Type 0} (w : ℕ) (g : ℕ → A) (f : A → F.Value)
-      → Made (λ e x. tokenOf e (f x)) (mapped g (at (num w) s p)) (payloadAt (number w (λ n. f (g n))) s p)
-  through-at w g f = record { law = numbers w (λ n. f (g n)) ∙ sym (placed-mapped g (λ e x. tokenOf e (f x)) (at (num w) s p)) }
+  pub through-at : {A : Type 0} (w : ℕ) (g : ℕ → A) (f : A → F.Value) {a : Answer A} {b : Answer Token}
+      → a ≡ mapped g (at (num w) s p) → b ≡ placed (λ e x. tokenOf e (f x)) a → b ≡ payloadAt (number w (λ n. f (g n))) s p
+  through-at w g f k l =
+      l ∙ ap (placed (λ e x. tokenOf e (f x))) k ∙ placed-mapped g (λ e x. tokenOf e (f x)) (at (num w) s p) ∙ sym (numbers w (λ n. f (g n)))
+
+  -- of a compact number
+  pub compact-from : (w : ℕ) (negative : Bool) {a : Answer ℕ} {b : Answer Token}
+      → a ≡ compact w negative s p → b ≡ placed (λ e n. tokenOf e (F.F64 n)) a → b ≡ payloadAt (compactOf w negative) s p
+  compact-from w negative = through-at (least7 w) (signedBy negative) F.F64
 
   -- of where the text stands
   pub text-at : (f : List ℕ → F.Value) (h : Text → Token) → ((e : ℕ) (t : List ℕ) → tokenOf e (f t) ≡ h (textOf e t))
-      → Made (λ e t. h t) (placed textOf (at string s p)) (payloadAt (text f) s p)
+      → {a : Answer Text} {b : Answer Token} → a ≡ placed textOf (at string s p) → b ≡ placed (λ _ t. h t) a → b ≡ payloadAt (text f) s p
   unfolding payloadAt payload placed mapped
-  text-at f h k = record { law = ap (placed tokenOf) (at-giving string f s p) ∙ go (at string s p) }
+  text-at f h k l m = m ∙ ap (placed (λ _ t. h t)) l ∙ sym (ap (placed tokenOf) (at-giving string f s p) ∙ go (at string s p))
     where
-      go : (x : Answer (List ℕ)) → placed tokenOf (mapped f x) ≡ placed (λ e t. h t) (placed textOf x)
+      go : (x : Answer (List ℕ)) → placed tokenOf (mapped f x) ≡ placed (λ _ t. h t) (placed textOf x)
       go (found t n) = ap (λ (y : Token). found y n) (k n t)
       go (refused e) = refl
 
-  pub colour-at : Made tokenOf (at rgb s p) (payloadAt colour s p)
+  pub colour-at : {a : Answer F.Value} {b : Answer Token} → a ≡ at rgb s p → b ≡ placed tokenOf a → b ≡ payloadAt colour s p
   unfolding payloadAt payload
-  colour-at = record { law = refl }
+  colour-at k l = l ∙ ap (placed tokenOf) k
 
   pub nothing-at : (v : F.Value) → found (tokenOf p v) p ≡ payloadAt (nothing v) s p
   unfolding placed

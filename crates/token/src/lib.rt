@@ -2,10 +2,10 @@
 mod texts;
 
 ghost use mathlib.Core.Path.{_≡_};
-ghost use Rattle.form.specs.Values as F;
-ghost use Rattle.form.specs.Table as Table;
-ghost use Rattle.payload.specs.Answers.{faultOf, why};
-ghost use Rattle.token.specs.Tokens.{tokenAnswer, payloadAt, tokenAt, compactOf};
+ghost use Rattle.form.specs.Readers.{placed};
+ghost use Rattle.payload.specs.Answers.{faultOf, why, u8Answer, u16Answer, u32Answer, u64Answer, i32Answer, i64Answer, boolAnswer, textAnswer, rgbAnswer};
+ghost use Rattle.token.specs.Tokens.{tokenAnswer, tokenOf, tokenAt};
+ghost use Rattle.token.specs.declared.Token.the-variants as T;
 pub use crate::texts::TextAnswer;
 pub use crate::texts::text;
 pub use crate::texts::text_part;
@@ -60,120 +60,100 @@ impl ReadToken {
     }
 }
 
-fn u32_token(bytes: &[u8], at: usize) -> ReadToken
-    ensures { λ r. ⌜ tokenAnswer r ≡ payloadAt (Table.number 4 F.U32) (now (bytes .entry)) at ⌝ }
+// The token of a payload, by what its read answers.
+fn u32_token(r: ReadU32) -> ReadToken
+    ensures { λ t. ⌜ tokenAnswer t ≡ placed (λ _. T.U32) (u32Answer r) ⌝ }
 {
-    let r = payload::read_u32(bytes, at);
     let ReadU32::Got(x, next) = r else {
         return ReadToken::Refused(r.refusal());
     };
     ReadToken::Got(Token::U32(x), next)
 }
 
-fn i32_token(bytes: &[u8], at: usize) -> ReadToken
-    ensures { λ r. ⌜ tokenAnswer r ≡ payloadAt (Table.number 4 F.signed32) (now (bytes .entry)) at ⌝ }
+fn i32_token(r: ReadI32) -> ReadToken
+    ensures { λ t. ⌜ tokenAnswer t ≡ placed (λ _. T.I32) (i32Answer r) ⌝ }
 {
-    let r = payload::read_i32(bytes, at);
     let ReadI32::Got(x, next) = r else {
         return ReadToken::Refused(r.refusal());
     };
     ReadToken::Got(Token::I32(x), next)
 }
 
-fn f32_token(bytes: &[u8], at: usize) -> ReadToken
-    ensures { λ r. ⌜ tokenAnswer r ≡ payloadAt (Table.number 4 F.F32) (now (bytes .entry)) at ⌝ }
+fn f32_token(r: ReadU32) -> ReadToken
+    ensures { λ t. ⌜ tokenAnswer t ≡ placed (λ _. T.F32) (u32Answer r) ⌝ }
 {
-    let r = payload::read_f32(bytes, at);
     let ReadU32::Got(x, next) = r else {
         return ReadToken::Refused(r.refusal());
     };
     ReadToken::Got(Token::F32(x), next)
 }
 
-fn u64_token(bytes: &[u8], at: usize) -> ReadToken
-    ensures { λ r. ⌜ tokenAnswer r ≡ payloadAt (Table.number 8 F.U64) (now (bytes .entry)) at ⌝ }
+fn u64_token(r: ReadU64) -> ReadToken
+    ensures { λ t. ⌜ tokenAnswer t ≡ placed (λ _. T.U64) (u64Answer r) ⌝ }
 {
-    let r = payload::read_u64(bytes, at);
     let ReadU64::Got(x, next) = r else {
         return ReadToken::Refused(r.refusal());
     };
     ReadToken::Got(Token::U64(x), next)
 }
 
-fn i64_token(bytes: &[u8], at: usize) -> ReadToken
-    ensures { λ r. ⌜ tokenAnswer r ≡ payloadAt (Table.number 8 F.signed64) (now (bytes .entry)) at ⌝ }
+fn i64_token(r: ReadI64) -> ReadToken
+    ensures { λ t. ⌜ tokenAnswer t ≡ placed (λ _. T.I64) (i64Answer r) ⌝ }
 {
-    let r = payload::read_i64(bytes, at);
     let ReadI64::Got(x, next) = r else {
         return ReadToken::Refused(r.refusal());
     };
     ReadToken::Got(Token::I64(x), next)
 }
 
-fn f64_token(bytes: &[u8], at: usize) -> ReadToken
-    ensures { λ r. ⌜ tokenAnswer r ≡ payloadAt (Table.number 8 F.F64) (now (bytes .entry)) at ⌝ }
+fn f64_token(r: ReadU64) -> ReadToken
+    ensures { λ t. ⌜ tokenAnswer t ≡ placed (λ _. T.F64) (u64Answer r) ⌝ }
 {
-    let r = payload::read_f64(bytes, at);
     let ReadU64::Got(x, next) = r else {
         return ReadToken::Refused(r.refusal());
     };
     ReadToken::Got(Token::F64(x), next)
 }
 
-fn compact_token(bytes: &[u8], at: usize, width: usize, negative: bool) -> ReadToken
-    ensures { λ r. ⌜ tokenAnswer r ≡ payloadAt (compactOf width negative) (now (bytes .entry)) at ⌝ }
+fn bool_token(r: ReadBool) -> ReadToken
+    ensures { λ t. ⌜ tokenAnswer t ≡ placed (λ _. T.Bool) (boolAnswer r) ⌝ }
 {
-    let r = payload::read_compact_f64(bytes, at, width, negative);
-    let ReadU64::Got(x, next) = r else {
-        return ReadToken::Refused(r.refusal());
-    };
-    ReadToken::Got(Token::F64(x), next)
-}
-
-fn bool_token(bytes: &[u8], at: usize) -> ReadToken
-    ensures { λ r. ⌜ tokenAnswer r ≡ payloadAt (Table.number 1 F.nonzero) (now (bytes .entry)) at ⌝ }
-{
-    let r = payload::read_bool(bytes, at);
     let ReadBool::Got(x, next) = r else {
         return ReadToken::Refused(r.refusal());
     };
     ReadToken::Got(Token::Bool(x), next)
 }
 
-fn quoted_token(bytes: &[u8], at: usize) -> ReadToken
-    ensures { λ r. ⌜ tokenAnswer r ≡ payloadAt (Table.text F.Quoted) (now (bytes .entry)) at ⌝ }
+fn quoted_token(r: ReadString) -> ReadToken
+    ensures { λ t. ⌜ tokenAnswer t ≡ placed (λ _. T.Quoted) (textAnswer r) ⌝ }
 {
-    let r = payload::read_string(bytes, at);
     let ReadString::Got(x, next) = r else {
         return ReadToken::Refused(r.refusal());
     };
     ReadToken::Got(Token::Quoted(x), next)
 }
 
-fn unquoted_token(bytes: &[u8], at: usize) -> ReadToken
-    ensures { λ r. ⌜ tokenAnswer r ≡ payloadAt (Table.text F.Unquoted) (now (bytes .entry)) at ⌝ }
+fn unquoted_token(r: ReadString) -> ReadToken
+    ensures { λ t. ⌜ tokenAnswer t ≡ placed (λ _. T.Unquoted) (textAnswer r) ⌝ }
 {
-    let r = payload::read_string(bytes, at);
     let ReadString::Got(x, next) = r else {
         return ReadToken::Refused(r.refusal());
     };
     ReadToken::Got(Token::Unquoted(x), next)
 }
 
-fn rgb_token(bytes: &[u8], at: usize) -> ReadToken
-    ensures { λ r. ⌜ tokenAnswer r ≡ payloadAt Table.colour (now (bytes .entry)) at ⌝ }
+fn rgb_token(r: ReadRgb) -> ReadToken
+    ensures { λ t. ⌜ tokenAnswer t ≡ placed tokenOf (rgbAnswer r) ⌝ }
 {
-    let r = payload::read_rgb(bytes, at);
     let ReadRgb::Got(x, next) = r else {
         return ReadToken::Refused(r.refusal());
     };
     ReadToken::Got(Token::Rgb(x), next)
 }
 
-fn lookup_u8_token(bytes: &[u8], at: usize) -> ReadToken
-    ensures { λ r. ⌜ tokenAnswer r ≡ payloadAt (Table.number 1 F.Lookup) (now (bytes .entry)) at ⌝ }
+fn lookup_u8_token(r: ReadU8) -> ReadToken
+    ensures { λ t. ⌜ tokenAnswer t ≡ placed (λ _. T.Lookup) (u8Answer r) ⌝ }
 {
-    let r = payload::read_lookup_u8(bytes, at);
     let ReadU8::Got(x, next) = r else {
         return ReadToken::Refused(r.refusal());
     };
@@ -181,10 +161,9 @@ fn lookup_u8_token(bytes: &[u8], at: usize) -> ReadToken
     ReadToken::Got(Token::Lookup(index), next)
 }
 
-fn lookup_u16_token(bytes: &[u8], at: usize) -> ReadToken
-    ensures { λ r. ⌜ tokenAnswer r ≡ payloadAt (Table.number 2 F.Lookup) (now (bytes .entry)) at ⌝ }
+fn lookup_u16_token(r: ReadU16) -> ReadToken
+    ensures { λ t. ⌜ tokenAnswer t ≡ placed (λ _. T.Lookup) (u16Answer r) ⌝ }
 {
-    let r = payload::read_lookup_u16(bytes, at);
     let ReadU16::Got(x, next) = r else {
         return ReadToken::Refused(r.refusal());
     };
@@ -192,20 +171,9 @@ fn lookup_u16_token(bytes: &[u8], at: usize) -> ReadToken
     ReadToken::Got(Token::Lookup(index), next)
 }
 
-fn lookup_u24_token(bytes: &[u8], at: usize) -> ReadToken
-    ensures { λ r. ⌜ tokenAnswer r ≡ payloadAt (Table.number 3 F.Lookup) (now (bytes .entry)) at ⌝ }
+fn lookup_token(r: ReadU32) -> ReadToken
+    ensures { λ t. ⌜ tokenAnswer t ≡ placed (λ _. T.Lookup) (u32Answer r) ⌝ }
 {
-    let r = payload::read_lookup_u24(bytes, at);
-    let ReadU32::Got(x, next) = r else {
-        return ReadToken::Refused(r.refusal());
-    };
-    ReadToken::Got(Token::Lookup(x), next)
-}
-
-fn lookup_u32_token(bytes: &[u8], at: usize) -> ReadToken
-    ensures { λ r. ⌜ tokenAnswer r ≡ payloadAt (Table.number 4 F.Lookup) (now (bytes .entry)) at ⌝ }
-{
-    let r = payload::read_lookup_u32(bytes, at);
     let ReadU32::Got(x, next) = r else {
         return ReadToken::Refused(r.refusal());
     };
@@ -225,15 +193,15 @@ pub fn read_token(bytes: &[u8], at: usize) -> ReadToken
         number::EQUAL => ReadToken::Got(Token::Equal, next),
         number::OPEN => ReadToken::Got(Token::Open, next),
         number::CLOSE => ReadToken::Got(Token::Close, next),
-        number::U32 => u32_token(bytes, next),
-        number::I32 => i32_token(bytes, next),
-        number::F32 => f32_token(bytes, next),
-        number::U64 => u64_token(bytes, next),
-        number::I64 => i64_token(bytes, next),
-        number::F64 => f64_token(bytes, next),
-        number::BOOL => bool_token(bytes, next),
-        number::QUOTED => quoted_token(bytes, next),
-        number::UNQUOTED | number::STR_SAV03 => unquoted_token(bytes, next),
+        number::U32 => u32_token(payload::read_u32(bytes, next)),
+        number::I32 => i32_token(payload::read_i32(bytes, next)),
+        number::F32 => f32_token(payload::read_f32(bytes, next)),
+        number::U64 => u64_token(payload::read_u64(bytes, next)),
+        number::I64 => i64_token(payload::read_i64(bytes, next)),
+        number::F64 => f64_token(payload::read_f64(bytes, next)),
+        number::BOOL => bool_token(payload::read_bool(bytes, next)),
+        number::QUOTED => quoted_token(payload::read_string(bytes, next)),
+        number::UNQUOTED | number::STR_SAV03 => unquoted_token(payload::read_string(bytes, next)),
         number::EMPTY_STRING => ReadToken::Got(
             Token::Quoted(Text {
                 start: next,
@@ -241,30 +209,22 @@ pub fn read_token(bytes: &[u8], at: usize) -> ReadToken
             }),
             next,
         ),
-        number::RGB => rgb_token(bytes, next),
-        number::LOOKUP_U8 | number::LOOKUP_U8_ALT | number::LOOKUP_U8_SAV03 => lookup_u8_token(
-            bytes,
-            next,
-        ),
-        number::LOOKUP_U16 | number::LOOKUP_U16_ALT | number::LOOKUP_U16_SAV03 => lookup_u16_token(
-            bytes,
-            next,
-        ),
-        number::LOOKUP_U24 | number::LOOKUP_U24_ALT | number::LOOKUP_U24_SAV03 => lookup_u24_token(
-            bytes,
-            next,
-        ),
-        number::LOOKUP_U32 | number::LOOKUP_U32_ALT | number::LOOKUP_U32_SAV03 => lookup_u32_token(
-            bytes,
-            next,
-        ),
+        number::RGB => rgb_token(payload::read_rgb(bytes, next)),
+        number::LOOKUP_U8 | number::LOOKUP_U8_ALT | number::LOOKUP_U8_SAV03 =>
+            lookup_u8_token(payload::read_lookup_u8(bytes, next)),
+        number::LOOKUP_U16 | number::LOOKUP_U16_ALT | number::LOOKUP_U16_SAV03 =>
+            lookup_u16_token(payload::read_lookup_u16(bytes, next)),
+        number::LOOKUP_U24 | number::LOOKUP_U24_ALT | number::LOOKUP_U24_SAV03 =>
+            lookup_token(payload::read_lookup_u24(bytes, next)),
+        number::LOOKUP_U32 | number::LOOKUP_U32_ALT | number::LOOKUP_U32_SAV03 =>
+            lookup_token(payload::read_lookup_u32(bytes, next)),
         number::FIXED5_ZERO..=number::FIXED5_U56 => {
             let width = (n - number::FIXED5_ZERO) as usize;
-            compact_token(bytes, next, width, false)
+            f64_token(payload::read_compact_f64(bytes, next, width, false))
         }
         number::FIXED5_I8..=number::FIXED5_I56 => {
             let width = (n - number::FIXED5_U56) as usize;
-            compact_token(bytes, next, width, true)
+            f64_token(payload::read_compact_f64(bytes, next, width, true))
         }
         _ => ReadToken::Got(Token::Id(n), next),
     }

@@ -2,16 +2,12 @@
 use mathlib.Core.Path.{_≡_, refl}
 use mir.Syntax.{w32}
 use mir.Val.{toZ, ofZ}
-use Rattle.form.specs.Values as F
 use Rattle.payload.specs.Answers.{i32Answer}
-use Rattle.token.specs.Tokens.{tokenOf}
-use Rattle.token.proofs.Laws.{getting, refusing, through-at}
+use Rattle.token.specs.declared.Token.the-variants as T
+use Rattle.token.proofs.Laws.{getting, refusing}
 use borrow.Author.Needs.{needs}
 use Rattle.token.proofs.i32_token.Statement.{statement}
 use Rattle.token.proofs.i32_token.Tie as tie
-
-read-i32-requires : tie.Need-read-i32-requires
-read-i32-requires c κs = search needs
 
 enum-known-r : tie.Need-enum-known-r
 enum-known-r c = search needs
@@ -23,13 +19,12 @@ refusal-requires : tie.Need-refusal-requires
 refusal-requires c κs = search needs
 
 returns : tie.Need-returns
-returns c = refusing i32Answer (through-at _ _ 4 (toZ w32) F.I32) (c .before .before .before .read-i32 .ensures) (c .before .enum-told .given .1) (c .refusal .ensures) refl
+returns c = refusing i32Answer (λ _. T.I32) (c .before .enum-told .given .1) (c .refusal .ensures) refl
 
 returns-2 : tie.Need-returns-2
-unfolding tokenOf
 returns-2 c =
     let t : toZ w32 (ofZ w32 (c .before .r .given .0 .0)) ≡ c .before .r .given .0 .0 = search needs in
-    rw t (getting i32Answer (through-at _ _ 4 (toZ w32) F.I32) (c .before .before .before .read-i32 .ensures) (c .before .r .given .1) refl)
+    rw t (getting i32Answer (λ _. T.I32) (c .before .r .given .1) refl)
 
 pub i32-token-spec : {M : Type 1} → statement M
-i32-token-spec = tie.close (tie.spec read-i32-requires enum-known-r enum-told refusal-requires returns returns-2)
+i32-token-spec = tie.close (tie.spec enum-known-r enum-told refusal-requires returns returns-2)

@@ -1,15 +1,11 @@
 -- `token::lookup_u8_token` meets its contract. Assumes nothing.
 use mathlib.Core.Path.{refl}
-use Rattle.form.specs.Values as F
 use Rattle.payload.specs.Answers.{u8Answer}
-use Rattle.token.specs.Tokens.{tokenOf}
-use Rattle.token.proofs.Laws.{getting, refusing, number-at}
+use Rattle.token.specs.declared.Token.the-variants as T
+use Rattle.token.proofs.Laws.{getting, refusing}
 use borrow.Author.Needs.{needs}
 use Rattle.token.proofs.lookup_u8_token.Statement.{statement}
 use Rattle.token.proofs.lookup_u8_token.Tie as tie
-
-read-lookup-u8-requires : tie.Need-read-lookup-u8-requires
-read-lookup-u8-requires c κs = search needs
 
 enum-known-r : tie.Need-enum-known-r
 enum-known-r c = search needs
@@ -21,14 +17,13 @@ refusal-requires : tie.Need-refusal-requires
 refusal-requires c κs = search needs
 
 returns : tie.Need-returns
-returns c = refusing u8Answer (number-at _ _ 1 F.Lookup) (c .before .before .before .read-lookup-u8 .ensures) (c .before .enum-told .given .1) (c .refusal .ensures) refl
+returns c = refusing u8Answer (λ _. T.Lookup) (c .before .enum-told .given .1) (c .refusal .ensures) refl
 
 cast-index : tie.Need-cast-index
 cast-index c = search needs
 
 returns-2 : tie.Need-returns-2
-unfolding tokenOf
-returns-2 c = getting u8Answer (number-at _ _ 1 F.Lookup) (c .before .before .before .read-lookup-u8 .ensures) (c .before .r .given .1) refl
+returns-2 c = getting u8Answer (λ _. T.Lookup) (c .before .r .given .1) refl
 
 pub lookup-u8-token-spec : {M : Type 1} → statement M
-lookup-u8-token-spec = tie.close (tie.spec read-lookup-u8-requires enum-known-r enum-told refusal-requires returns cast-index returns-2)
+lookup-u8-token-spec = tie.close (tie.spec enum-known-r enum-told refusal-requires returns cast-index returns-2)

@@ -1,11 +1,17 @@
 -- `token::read_token` meets its contract: an arm knows which entry of the table its id is in, and the default that none has it. Assumes nothing.
+use Prim.Native.Nat.{_-_}
 use mathlib.Core.Path.{refl, ap, _∙_}
-use mathlib.Core.Bool.{true, false}
+use mathlib.Core.Bool.{true, false, not}
+use lib.Dec.{eqb}
+use mir.Syntax.{w32, w64}
+use mir.Val.{toZ}
+use Rattle.form.specs.Values as F
 use native.Mathlib.Omega.{arith}
 use Rattle.form.specs.Table.{table, entries, find, orPlain, after}
 use Rattle.form.proofs.Lookups.{unquoted-at, lookup1-at, lookup2-at, lookup3-at, lookup4-at, compact-at, negated-at, plain-below, plain-above, range-from}
 use Rattle.token.specs.Tokens.{tokenOf}
-use Rattle.token.proofs.Laws.{after-id, no-id, nothing-at, empty-token, compact-is}
+use Rattle.token.specs.declared.Token.the-variants as T
+use Rattle.token.proofs.Laws.{after-id, no-id, number-at, through-at, text-at, colour-at, compact-from, nothing-at, empty-token, compact-is}
 use borrow.Author.Needs.{needs}
 use Rattle.token.proofs.read_token.Statement.{statement}
 use Rattle.token.proofs.read_token.Tie as tie
@@ -25,47 +31,89 @@ refusal-requires c κs = search needs
 returns : tie.Need-returns
 returns c = no-id _ _ (c .before .before .before .read-id .ensures) (c .before .enum-told .given .1) (c .refusal .ensures) refl
 
+read-u32-requires : tie.Need-read-u32-requires
+read-u32-requires c κs = search needs
+
 u32-token-requires : tie.Need-u32-token-requires
 u32-token-requires c κs = search needs
+
+read-i32-requires : tie.Need-read-i32-requires
+read-i32-requires c κs = search needs
 
 i32-token-requires : tie.Need-i32-token-requires
 i32-token-requires c κs = search needs
 
+read-f32-requires : tie.Need-read-f32-requires
+read-f32-requires c κs = search needs
+
 f32-token-requires : tie.Need-f32-token-requires
 f32-token-requires c κs = search needs
+
+read-u64-requires : tie.Need-read-u64-requires
+read-u64-requires c κs = search needs
 
 u64-token-requires : tie.Need-u64-token-requires
 u64-token-requires c κs = search needs
 
+read-i64-requires : tie.Need-read-i64-requires
+read-i64-requires c κs = search needs
+
 i64-token-requires : tie.Need-i64-token-requires
 i64-token-requires c κs = search needs
+
+read-f64-requires : tie.Need-read-f64-requires
+read-f64-requires c κs = search needs
 
 f64-token-requires : tie.Need-f64-token-requires
 f64-token-requires c κs = search needs
 
+read-bool-requires : tie.Need-read-bool-requires
+read-bool-requires c κs = search needs
+
 bool-token-requires : tie.Need-bool-token-requires
 bool-token-requires c κs = search needs
+
+read-string-requires : tie.Need-read-string-requires
+read-string-requires c κs = search needs
 
 quoted-token-requires : tie.Need-quoted-token-requires
 quoted-token-requires c κs = search needs
 
+read-string-requires-2 : tie.Need-read-string-requires-2
+read-string-requires-2 c κs = search needs
+
 unquoted-token-requires : tie.Need-unquoted-token-requires
 unquoted-token-requires c κs = search needs
+
+read-rgb-requires : tie.Need-read-rgb-requires
+read-rgb-requires c κs = search needs
 
 rgb-token-requires : tie.Need-rgb-token-requires
 rgb-token-requires c κs = search needs
 
+read-lookup-u8-requires : tie.Need-read-lookup-u8-requires
+read-lookup-u8-requires c κs = search needs
+
 lookup-u8-token-requires : tie.Need-lookup-u8-token-requires
 lookup-u8-token-requires c κs = search needs
+
+read-lookup-u16-requires : tie.Need-read-lookup-u16-requires
+read-lookup-u16-requires c κs = search needs
 
 lookup-u16-token-requires : tie.Need-lookup-u16-token-requires
 lookup-u16-token-requires c κs = search needs
 
-lookup-u24-token-requires : tie.Need-lookup-u24-token-requires
-lookup-u24-token-requires c κs = search needs
+read-lookup-u24-requires : tie.Need-read-lookup-u24-requires
+read-lookup-u24-requires c κs = search needs
 
-lookup-u32-token-requires : tie.Need-lookup-u32-token-requires
-lookup-u32-token-requires c κs = search needs
+lookup-token-requires : tie.Need-lookup-token-requires
+lookup-token-requires c κs = search needs
+
+read-lookup-u32-requires : tie.Need-read-lookup-u32-requires
+read-lookup-u32-requires c κs = search needs
+
+lookup-token-requires-2 : tie.Need-lookup-token-requires-2
+lookup-token-requires-2 c κs = search needs
 
 sub-width : tie.Need-sub-width
 unfolding entries table
@@ -74,8 +122,11 @@ sub-width c = omega (arith, range-from _ (c .before .before .match2 .rest) (c .b
 cast-width : tie.Need-cast-width
 cast-width c = omega (arith, c .if2 .taken)
 
-compact-token-requires : tie.Need-compact-token-requires
-compact-token-requires c κs = search needs
+read-compact-f64-requires : tie.Need-read-compact-f64-requires
+read-compact-f64-requires c κs = search needs
+
+f64-token-requires-2 : tie.Need-f64-token-requires-2
+f64-token-requires-2 c κs = search needs
 
 sub-width-2 : tie.Need-sub-width-2
 sub-width-2 c = search needs
@@ -83,8 +134,11 @@ sub-width-2 c = search needs
 cast-width-2 : tie.Need-cast-width-2
 cast-width-2 c = omega (arith, c .if3 .taken)
 
-compact-token-requires-2 : tie.Need-compact-token-requires-2
-compact-token-requires-2 c κs = search needs
+read-compact-f64-requires-2 : tie.Need-read-compact-f64-requires-2
+read-compact-f64-requires-2 c κs = search needs
+
+f64-token-requires-3 : tie.Need-f64-token-requires-3
+f64-token-requires-3 c κs = search needs
 
 returns-2 : tie.Need-returns-2
 unfolding after orPlain find entries table tokenOf
@@ -99,67 +153,76 @@ unfolding after orPlain find entries table tokenOf
 returns-4 c = after-id _ _ (c .before .before .before .before .read-id .ensures) (c .before .before .r .given .1) (ap after (c .match2 .keys3)) (nothing-at _ _ _)
 
 returns-5 : tie.Need-returns-5
-unfolding after orPlain find entries table
-returns-5 c = after-id _ _ (c .before .before .before .before .before .read-id .ensures) (c .before .before .before .r .given .1) (ap after (c .before .match2 .keys4)) (c .u32-token .ensures)
+unfolding after orPlain find entries table tokenOf
+returns-5 c = after-id _ _ (c .before .before .before .before .before .before .read-id .ensures) (c .before .before .before .before .r .given .1) (ap after (c .before .before .match2 .keys4)) (number-at _ _ 4 F.U32 (c .before .read-u32 .ensures) (c .u32-token .ensures))
 
 returns-6 : tie.Need-returns-6
-unfolding after orPlain find entries table
-returns-6 c = after-id _ _ (c .before .before .before .before .before .read-id .ensures) (c .before .before .before .r .given .1) (ap after (c .before .match2 .keys5)) (c .i32-token .ensures)
+unfolding after orPlain find entries table tokenOf
+returns-6 c = after-id _ _ (c .before .before .before .before .before .before .read-id .ensures) (c .before .before .before .before .r .given .1) (ap after (c .before .before .match2 .keys5)) (through-at _ _ 4 (toZ w32) F.I32 (c .before .read-i32 .ensures) (c .i32-token .ensures))
 
 returns-7 : tie.Need-returns-7
-unfolding after orPlain find entries table
-returns-7 c = after-id _ _ (c .before .before .before .before .before .read-id .ensures) (c .before .before .before .r .given .1) (ap after (c .before .match2 .keys6)) (c .f32-token .ensures)
+unfolding after orPlain find entries table tokenOf
+returns-7 c = after-id _ _ (c .before .before .before .before .before .before .read-id .ensures) (c .before .before .before .before .r .given .1) (ap after (c .before .before .match2 .keys6)) (number-at _ _ 4 F.F32 (c .before .read-f32 .ensures) (c .f32-token .ensures))
 
 returns-8 : tie.Need-returns-8
-unfolding after orPlain find entries table
-returns-8 c = after-id _ _ (c .before .before .before .before .before .read-id .ensures) (c .before .before .before .r .given .1) (ap after (c .before .match2 .keys7)) (c .u64-token .ensures)
+unfolding after orPlain find entries table tokenOf
+returns-8 c = after-id _ _ (c .before .before .before .before .before .before .read-id .ensures) (c .before .before .before .before .r .given .1) (ap after (c .before .before .match2 .keys7)) (number-at _ _ 8 F.U64 (c .before .read-u64 .ensures) (c .u64-token .ensures))
 
 returns-9 : tie.Need-returns-9
-unfolding after orPlain find entries table
-returns-9 c = after-id _ _ (c .before .before .before .before .before .read-id .ensures) (c .before .before .before .r .given .1) (ap after (c .before .match2 .keys8)) (c .i64-token .ensures)
+unfolding after orPlain find entries table tokenOf
+returns-9 c = after-id _ _ (c .before .before .before .before .before .before .read-id .ensures) (c .before .before .before .before .r .given .1) (ap after (c .before .before .match2 .keys8)) (through-at _ _ 8 (toZ w64) F.I64 (c .before .read-i64 .ensures) (c .i64-token .ensures))
 
 returns-10 : tie.Need-returns-10
-unfolding after orPlain find entries table
-returns-10 c = after-id _ _ (c .before .before .before .before .before .read-id .ensures) (c .before .before .before .r .given .1) (ap after (c .before .match2 .keys9)) (c .f64-token .ensures)
+unfolding after orPlain find entries table tokenOf
+returns-10 c = after-id _ _ (c .before .before .before .before .before .before .read-id .ensures) (c .before .before .before .before .r .given .1) (ap after (c .before .before .match2 .keys9)) (number-at _ _ 8 F.F64 (c .before .read-f64 .ensures) (c .f64-token .ensures))
 
 returns-11 : tie.Need-returns-11
-unfolding after orPlain find entries table
-returns-11 c = after-id _ _ (c .before .before .before .before .before .read-id .ensures) (c .before .before .before .r .given .1) (ap after (c .before .match2 .keys10)) (c .bool-token .ensures)
+unfolding after orPlain find entries table tokenOf
+returns-11 c = after-id _ _ (c .before .before .before .before .before .before .read-id .ensures) (c .before .before .before .before .r .given .1) (ap after (c .before .before .match2 .keys10)) (through-at _ _ 1 (λ n. not (eqb n 0)) F.Truth (c .before .read-bool .ensures) (c .bool-token .ensures))
 
 returns-12 : tie.Need-returns-12
-unfolding after orPlain find entries table
-returns-12 c = after-id _ _ (c .before .before .before .before .before .read-id .ensures) (c .before .before .before .r .given .1) (ap after (c .before .match2 .keys11)) (c .quoted-token .ensures)
+unfolding after orPlain find entries table tokenOf
+returns-12 c = after-id _ _ (c .before .before .before .before .before .before .read-id .ensures) (c .before .before .before .before .r .given .1) (ap after (c .before .before .match2 .keys11)) (text-at _ _ F.Quoted T.Quoted (λ _ _. refl) (c .before .read-string .ensures) (c .quoted-token .ensures))
 
 returns-13 : tie.Need-returns-13
-returns-13 c = after-id _ _ (c .before .before .before .before .before .read-id .ensures) (c .before .before .before .r .given .1) (unquoted-at (c .before .match2 .keys12)) (c .unquoted-token .ensures)
+unfolding tokenOf
+returns-13 c = after-id _ _ (c .before .before .before .before .before .before .read-id .ensures) (c .before .before .before .before .r .given .1) (unquoted-at (c .before .before .match2 .keys12)) (text-at _ _ F.Unquoted T.Unquoted (λ _ _. refl) (c .before .read-string2 .ensures) (c .unquoted-token .ensures))
 
 returns-14 : tie.Need-returns-14
 unfolding after orPlain find entries table
 returns-14 c = rw (← empty-token _) (after-id _ _ (c .before .before .before .before .read-id .ensures) (c .before .before .r .given .1) (ap after (c .match2 .keys13)) (nothing-at _ _ _))
 
 returns-15 : tie.Need-returns-15
-unfolding after orPlain find entries table
-returns-15 c = after-id _ _ (c .before .before .before .before .before .read-id .ensures) (c .before .before .before .r .given .1) (ap after (c .before .match2 .keys14)) (c .rgb-token .ensures)
+unfolding after orPlain find entries table tokenOf
+returns-15 c = after-id _ _ (c .before .before .before .before .before .before .read-id .ensures) (c .before .before .before .before .r .given .1) (ap after (c .before .before .match2 .keys14)) (colour-at _ _ (c .before .read-rgb .ensures) (c .rgb-token .ensures))
 
 returns-16 : tie.Need-returns-16
-returns-16 c = after-id _ _ (c .before .before .before .before .before .read-id .ensures) (c .before .before .before .r .given .1) (lookup1-at (c .before .match2 .keys15)) (c .lookup-u8-token .ensures)
+unfolding tokenOf
+returns-16 c = after-id _ _ (c .before .before .before .before .before .before .read-id .ensures) (c .before .before .before .before .r .given .1) (lookup1-at (c .before .before .match2 .keys15)) (number-at _ _ 1 F.Lookup (c .before .read-lookup-u8 .ensures) (c .lookup-u8-token .ensures))
 
 returns-17 : tie.Need-returns-17
-returns-17 c = after-id _ _ (c .before .before .before .before .before .read-id .ensures) (c .before .before .before .r .given .1) (lookup2-at (c .before .match2 .keys16)) (c .lookup-u16-token .ensures)
+unfolding tokenOf
+returns-17 c = after-id _ _ (c .before .before .before .before .before .before .read-id .ensures) (c .before .before .before .before .r .given .1) (lookup2-at (c .before .before .match2 .keys16)) (number-at _ _ 2 F.Lookup (c .before .read-lookup-u16 .ensures) (c .lookup-u16-token .ensures))
 
 returns-18 : tie.Need-returns-18
-returns-18 c = after-id _ _ (c .before .before .before .before .before .read-id .ensures) (c .before .before .before .r .given .1) (lookup3-at (c .before .match2 .keys17)) (c .lookup-u24-token .ensures)
+unfolding tokenOf
+returns-18 c = after-id _ _ (c .before .before .before .before .before .before .read-id .ensures) (c .before .before .before .before .r .given .1) (lookup3-at (c .before .before .match2 .keys17)) (number-at _ _ 3 F.Lookup (c .before .read-lookup-u24 .ensures) (c .lookup-token .ensures))
 
 returns-19 : tie.Need-returns-19
-returns-19 c = after-id _ _ (c .before .before .before .before .before .read-id .ensures) (c .before .before .before .r .given .1) (lookup4-at (c .before .match2 .keys18)) (c .lookup-u32-token .ensures)
+unfolding tokenOf
+returns-19 c = after-id _ _ (c .before .before .before .before .before .before .read-id .ensures) (c .before .before .before .before .r .given .1) (lookup4-at (c .before .before .match2 .keys18)) (number-at _ _ 4 F.Lookup (c .before .read-lookup-u32 .ensures) (c .lookup-token2 .ensures))
 
 returns-20 : tie.Need-returns-20
-unfolding entries table
-returns-20 c = after-id _ _ (c .before .before .before .before .before .before .before .read-id .ensures) (c .before .before .before .before .before .r .given .1) (compact-at _ (c .before .before .before .match2 .rest) (c .before .before .if1 .left) (c .before .if2 .taken) ∙ compact-is _ _ false (c .before .if2 .taken)) (c .compact-token .ensures)
+unfolding entries table tokenOf
+returns-20 c =
+    let g = c .before .before .before .before .before .before .r .given .0 in
+    after-id _ _ (c .before .before .before .before .before .before .before .before .read-id .ensures) (c .before .before .before .before .before .before .r .given .1) (compact-at _ (c .before .before .before .before .match2 .rest) (c .before .before .before .if1 .left) (c .before .before .if2 .taken) ∙ compact-is _ _ false (c .before .before .if2 .taken)) (compact-from (c .before .before .before .before .before .before .before .before .before .before .args .bytes .now) (g .1 .0) (g .0 .0 - 0x0d47) false (c .before .read-compact-f64 .ensures) (c .f64-token2 .ensures))
 
 returns-21 : tie.Need-returns-21
-unfolding entries table
-returns-21 c = after-id _ _ (c .before .before .before .before .before .before .before .before .read-id .ensures) (c .before .before .before .before .before .before .r .given .1) (negated-at _ (c .before .before .before .before .match2 .rest) (c .before .before .if2 .left) (c .before .if3 .taken) ∙ compact-is _ _ true (c .before .if3 .taken)) (c .compact-token2 .ensures)
+unfolding entries table tokenOf
+returns-21 c =
+    let g = c .before .before .before .before .before .before .before .r .given .0 in
+    after-id _ _ (c .before .before .before .before .before .before .before .before .before .read-id .ensures) (c .before .before .before .before .before .before .before .r .given .1) (negated-at _ (c .before .before .before .before .before .match2 .rest) (c .before .before .before .if2 .left) (c .before .before .if3 .taken) ∙ compact-is _ _ true (c .before .before .if3 .taken)) (compact-from (c .before .before .before .before .before .before .before .before .before .before .before .args .bytes .now) (g .1 .0) (g .0 .0 - 0x0d4e) true (c .before .read-compact-f642 .ensures) (c .f64-token3 .ensures))
 
 returns-22 : tie.Need-returns-22
 unfolding entries table tokenOf
@@ -178,26 +241,42 @@ read-token-spec =
     enum-told
     refusal-requires
     returns
+    read-u32-requires
     u32-token-requires
+    read-i32-requires
     i32-token-requires
+    read-f32-requires
     f32-token-requires
+    read-u64-requires
     u64-token-requires
+    read-i64-requires
     i64-token-requires
+    read-f64-requires
     f64-token-requires
+    read-bool-requires
     bool-token-requires
+    read-string-requires
     quoted-token-requires
+    read-string-requires-2
     unquoted-token-requires
+    read-rgb-requires
     rgb-token-requires
+    read-lookup-u8-requires
     lookup-u8-token-requires
+    read-lookup-u16-requires
     lookup-u16-token-requires
-    lookup-u24-token-requires
-    lookup-u32-token-requires
+    read-lookup-u24-requires
+    lookup-token-requires
+    read-lookup-u32-requires
+    lookup-token-requires-2
     sub-width
     cast-width
-    compact-token-requires
+    read-compact-f64-requires
+    f64-token-requires-2
     sub-width-2
     cast-width-2
-    compact-token-requires-2
+    read-compact-f64-requires-2
+    f64-token-requires-3
     returns-2
     returns-3
     returns-4

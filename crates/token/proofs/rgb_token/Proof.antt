@@ -1,13 +1,11 @@
 -- `token::rgb_token` meets its contract. Assumes nothing.
 use mathlib.Core.Path.{refl}
 use Rattle.payload.specs.Answers.{rgbAnswer}
-use Rattle.token.proofs.Laws.{getting, refusing, colour-at, colour-token}
+use Rattle.token.specs.Tokens.{tokenOf}
+use Rattle.token.proofs.Laws.{getting, refusing, colour-token}
 use borrow.Author.Needs.{needs}
 use Rattle.token.proofs.rgb_token.Statement.{statement}
 use Rattle.token.proofs.rgb_token.Tie as tie
-
-read-rgb-requires : tie.Need-read-rgb-requires
-read-rgb-requires c κs = search needs
 
 enum-known-r : tie.Need-enum-known-r
 enum-known-r c = search needs
@@ -19,10 +17,10 @@ refusal-requires : tie.Need-refusal-requires
 refusal-requires c κs = search needs
 
 returns : tie.Need-returns
-returns c = refusing rgbAnswer (colour-at _ _) (c .before .before .before .read-rgb .ensures) (c .before .enum-told .given .1) (c .refusal .ensures) refl
+returns c = refusing rgbAnswer tokenOf (c .before .enum-told .given .1) (c .refusal .ensures) refl
 
 returns-2 : tie.Need-returns-2
-returns-2 c = rw (← colour-token (c .before .r .given .0 .1 .0) (c .before .r .given .0 .0)) (getting rgbAnswer (colour-at _ _) (c .before .before .before .read-rgb .ensures) (c .before .r .given .1) refl)
+returns-2 c = rw (← colour-token (c .before .r .given .0 .1 .0) (c .before .r .given .0 .0)) (getting rgbAnswer tokenOf (c .before .r .given .1) refl)
 
 pub rgb-token-spec : {M : Type 1} → statement M
-rgb-token-spec = tie.close (tie.spec read-rgb-requires enum-known-r enum-told refusal-requires returns returns-2)
+rgb-token-spec = tie.close (tie.spec enum-known-r enum-told refusal-requires returns returns-2)
