@@ -10,7 +10,7 @@ use borrow.Author.Tests.{le-leb, lt-leb}
 use Rattle.form.specs.Refusals.{Fault}
 use Rattle.form.specs.Values as F
 use Rattle.form.specs.Table.{Payload, number, text, colour, nothing, after}
-use Rattle.form.specs.Readers.{Answer, found, refused, andThen, at, mapped, placed}
+use Rattle.form.specs.Readers.{Answer, found, refused, andThen, ByPlace, at, mapped, placed}
 use Rattle.form.specs.Reading.{num, string, rgb, payload}
 use Rattle.form.proofs.Places.{at-giving, by-id, num-there, token-then}
 use Rattle.lexeme.specs.declared.LexemeId.{LexemeId}
@@ -23,7 +23,7 @@ use Rattle.payload.specs.declared.answers.Rgb.{Rgb}
 use Rattle.payload.specs.declared.answers.ReadId.{ReadId}
 use Rattle.payload.specs.declared.answers.ReadId.the-variants.{Got}
 use Rattle.payload.proofs.Laws.{gotOf, elseOf}
-use Rattle.token.specs.Tokens.{tokenOf, payloadAt, tokenAt, alphaFor, compactOf}
+use Rattle.token.specs.Tokens.{tokenOf, tokenAt, alphaFor}
 use Rattle.token.specs.Texts.{lies}
 use Rattle.token.specs.declared.Token.{Token}
 use Rattle.token.specs.declared.Token.the-variants as T
@@ -40,6 +40,14 @@ module _ {E A : Type 0} (answer : E → Answer A) (h : ℕ → A → Token) {r t
   refusing e d = sym (ap (placed h) (elseOf answer refl q e d))
 
 -- ---- the token of each payload, by what its read answers
+
+-- what follows an id, at a place
+unfoldable pub payloadAt : Payload → ByPlace Token
+payloadAt p s at′ = placed tokenOf (at (payload p) s at′)
+
+-- a compact number of w bytes
+abbrev pub compactOf : ℕ → Bool → Payload
+compactOf w negative = number (least7 w) (λ n. F.F64 (signedBy negative n))
 
 placed-mapped : {A B C : Type 0} (f : A → B) (g : ℕ → B → C) (x : Answer A) → placed g (mapped f x) ≡ placed (λ e a. g e (f a)) x
 unfolding placed mapped

@@ -1,15 +1,12 @@
 -- The code's token for a value of the definition, and what stands at a place.
 use Prim.Native.Nat.{ℕ}
-use mathlib.Core.Bool.{Bool}
 use mathlib.Core.Option.{Option, none, some}
 use mathlib.Core.List.{List}
 use lib.ListN.{take, drop}
 use Rattle.form.specs.Values as F
-use Rattle.form.specs.Table.{Payload, number}
 use Rattle.form.specs.Readers.{Answer, found, refused, ByPlace, at, placed}
-use Rattle.form.specs.Reading.{payload, token}
+use Rattle.form.specs.Reading.{token}
 use Rattle.payload.specs.Answers.{faultOf, textOf, colourOf}
-use Rattle.payload.specs.Compact.{least7, signedBy}
 use Rattle.payload.specs.declared.answers.Alpha.{Alpha}
 use Rattle.payload.specs.declared.answers.Alpha.the-variants.{Absent, Given}
 use Rattle.token.specs.declared.Token.{Token}
@@ -56,14 +53,6 @@ valueOf s (T.Rgb c) = colourOf c
 valueOf s (T.I64 z) = F.I64 z
 valueOf s (T.Lookup n) = F.Lookup n
 valueOf s (T.Id i) = F.Id i
-
--- what follows an id, at a place
-unfoldable pub payloadAt : Payload → ByPlace Token
-payloadAt p s at′ = placed tokenOf (at (payload p) s at′)
-
--- a compact number of w bytes
-abbrev pub compactOf : ℕ → Bool → Payload
-compactOf w negative = number (least7 w) (λ n. F.F64 (signedBy negative n))
 
 -- the token at a place, and the place after it
 unfoldable pub tokenAt : ByPlace Token
