@@ -8,6 +8,6 @@ pub mod kinds;
 pub mod lexing;
 pub mod parts;
 mod replies;
-mod stepping;
+pub mod stepping;
 mod tokens;
-mod writing;
+pub mod writing;

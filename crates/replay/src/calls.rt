@@ -1,35 +1,43 @@
 // The calls by their numbers, and whether one answers as a line says.
 use crate::line::NUMBERS;
+use crate::outputs;
+use crate::outputs::LENT;
+use crate::outputs::LONGEST_OUTPUT;
 use capi::counting;
 use capi::kinds;
 use capi::lexing;
 use capi::parts;
 
-// What a call returns; nothing for a number that no call has, or for an id of more than two bytes.
+// What a call returns; nothing for a number that no call has, or for what cannot be given to it.
 pub enum Asked {
     Code(u32),
     Nothing,
 }
 
-// The code and all eight words are those of the line.
-pub(crate) fn holds(numbers: &[u64; NUMBERS], bytes: &[u8]) -> bool {
+// The code and all eight words are those of the line, and so are the lent bytes.
+pub(crate) fn holds(numbers: &[u64; NUMBERS], bytes: &[u8], output: &[u8]) -> bool {
     let call = numbers[0];
+    let at = numbers[1] as usize;
+    let arg = numbers[2] as usize;
     let before = lent(call);
     let mut answer = [before; 8];
-    let asked = ask(
-        call,
-        bytes,
-        numbers[1] as usize,
-        numbers[2] as usize,
-        &mut answer,
-    );
-    match asked {
-        Asked::Code(code) => {
-            if code as u64 == numbers[3] {
-                return same_words(numbers, &answer);
-            }
-            false
+    let mut out = [LENT; LONGEST_OUTPUT];
+    let asked = if call < 29 {
+        ask(call, bytes, at, arg, &mut answer)
+    } else {
+        outputs::ask(call, bytes, at, arg, &mut out, &mut answer)
+    };
+    if same_code(asked, numbers[3]) {
+        if same_words(numbers, &answer) {
+            return outputs::same_output(output, &out);
         }
+    }
+    false
+}
+
+fn same_code(asked: Asked, code: u64) -> bool {
+    match asked {
+        Asked::Code(c) => c as u64 == code,
         Asked::Nothing => false,
     }
 }

@@ -1,19 +1,25 @@
-// A line: twelve numbers and the input in hex, with single spaces between them. The numbers are the call, its cursor, what else it is
-// given, the code of its answer and the eight words. A line that begins with # is a comment.
+// A line: twelve numbers and bytes in hex, with single spaces between them. The numbers are the call, its cursor, what else it is given,
+// the code of its answer and the eight words. The bytes are the input, or the input, a slash and what the call leaves in the bytes that it
+// is lent; a dash stands for none. A line that begins with # is a comment.
 
 pub const NUMBERS: usize = 12;
 
-pub const LONGEST_INPUT: usize = 256;
+// Of the input and the output together.
+pub const LONGEST: usize = 1280;
 
 // How far it is read.
 pub struct Line {
-    // Columns that are read to their end.
+    // Numbers that are read to their end.
     pub column: usize,
-    // Whether the next one has begun, and what its digits spell so far.
+    // Whether the next one, or the part of the bytes, has begun, and what a number's digits spell so far.
     pub begun: bool,
     pub number: u64,
-    // Bytes of the input, and the digit that waits for its second, or 16.
+    // Bytes so far, and those of them that are the input.
     pub len: usize,
+    pub input: usize,
+    // The input has ended.
+    pub parted: bool,
+    // The digit that waits for its second, or 16; 17 after a dash.
     pub half: u8,
     pub comment: bool,
     pub sound: bool,
@@ -26,6 +32,8 @@ impl Line {
             begun: false,
             number: 0,
             len: 0,
+            input: 0,
+            parted: false,
             half: 16,
             comment: false,
             sound: true,
@@ -43,12 +51,16 @@ impl Line {
     // All columns are there.
     pub(crate) fn is_whole(self) -> bool {
         if self.sound {
-            if self.column > NUMBERS {
-                return true;
+            if self.column == NUMBERS {
+                return self.part_is_whole();
             }
-            if self.half > 15 {
-                return self.len > 0;
-            }
+        }
+        false
+    }
+
+    fn part_is_whole(self) -> bool {
+        if self.begun {
+            return self.half > 15;
         }
         false
     }
@@ -58,7 +70,7 @@ impl Line {
         self,
         b: u8,
         numbers: &mut [u64; NUMBERS],
-        input: &mut [u8; LONGEST_INPUT],
+        bytes: &mut [u8; LONGEST],
     ) -> Line {
         if self.comment {
             return self;
@@ -66,10 +78,7 @@ impl Line {
         if self.column < NUMBERS {
             return self.feed_number(b, numbers);
         }
-        if self.column == NUMBERS {
-            return self.feed_input(b, input);
-        }
-        self.spoilt()
+        self.feed_bytes(b, bytes)
     }
 
     fn spoilt(self) -> Line {
@@ -128,15 +137,49 @@ impl Line {
         self.spoilt()
     }
 
-    fn feed_input(self, b: u8, input: &mut [u8; LONGEST_INPUT]) -> Line {
-        if b == b'-' {
-            return self.no_input();
+    fn feed_bytes(self, b: u8, bytes: &mut [u8; LONGEST]) -> Line {
+        match b {
+            b'-' => self.no_bytes(),
+            b'/' => self.end_input(),
+            _ => self.hex(b, bytes),
         }
+    }
+
+    // A dash, alone in its part.
+    fn no_bytes(self) -> Line {
+        if self.begun {
+            return self.spoilt();
+        }
+        let mut line = self;
+        line.begun = true;
+        line.half = 17;
+        line
+    }
+
+    // A slash, after a whole input.
+    fn end_input(self) -> Line {
+        if self.parted {
+            return self.spoilt();
+        }
+        if self.part_is_whole() {
+            let mut line = self;
+            line.parted = true;
+            line.begun = false;
+            line.half = 16;
+            return line;
+        }
+        self.spoilt()
+    }
+
+    fn hex(self, b: u8, bytes: &mut [u8; LONGEST]) -> Line {
         let d = hex_digit(b);
+        let half = self.half;
         if d > 15 {
             return self.spoilt();
         }
-        let half = self.half;
+        if half > 16 {
+            return self.spoilt();
+        }
         let mut line = self;
         line.begun = true;
         if half > 15 {
@@ -144,27 +187,26 @@ impl Line {
             return line;
         }
         line.half = 16;
-        line.byte(half * 16 + d, input)
+        line.byte(half * 16 + d, bytes)
     }
 
-    fn byte(self, b: u8, input: &mut [u8; LONGEST_INPUT]) -> Line {
+    fn byte(self, b: u8, bytes: &mut [u8; LONGEST]) -> Line {
         let len = self.len;
         let mut line = self;
-        if len < LONGEST_INPUT {
-            input[len] = b;
+        if len < LONGEST {
+            bytes[len] = b;
             line.len = len + 1;
-            return line;
+            return line.lengthened();
         }
         line.spoilt()
     }
 
-    // A dash, alone in its column.
-    fn no_input(self) -> Line {
-        if self.begun {
-            return self.spoilt();
-        }
+    fn lengthened(self) -> Line {
         let mut line = self;
-        line.column = NUMBERS + 1;
+        if line.parted {
+            return line;
+        }
+        line.input = line.len;
         line
     }
 }

@@ -10,6 +10,8 @@ pub struct Tally {
     pub tokens: u64,
     pub payloads: u64,
     pub skips: u64,
+    pub writes: u64,
+    pub steps: u64,
     pub unreadable: u64,
     pub answers: u64,
     pub different: u64,
@@ -25,6 +27,8 @@ impl Tally {
             tokens: 0,
             payloads: 0,
             skips: 0,
+            writes: 0,
+            steps: 0,
             unreadable: 0,
             answers: 0,
             different: 0,
@@ -59,6 +63,8 @@ impl Tally {
             10..=13 => t.tokens = more(t.tokens),
             14..=26 => t.payloads = more(t.payloads),
             27..=28 => t.skips = more(t.skips),
+            29..=31 => t.writes = more(t.writes),
+            32 => t.steps = more(t.steps),
             _ => t.unreadable = more(t.unreadable),
         }
         t
@@ -71,6 +77,8 @@ impl Tally {
         print(b", tokens ", self.tokens);
         print(b", payloads ", self.payloads);
         print(b", skips ", self.skips);
+        print(b", writes ", self.writes);
+        print(b", steps ", self.steps);
         print(b", unreadable ", self.unreadable);
         print(b"\n", self.answers);
         print(b" answers replayed, ", self.different);

@@ -2,22 +2,24 @@
 
 use std::path::PathBuf;
 
-const USAGE: &str = "compare [--cases N] [--seed S] [--programs N] [--record FILE]
-  --cases N      generated saves (default 10000)
-  --seed S       what they are made from (default 1)
-  --programs N   only run the programs dump and normal, on N generated saves
-  --record FILE  only write a sample of the original's answers to FILE";
+const USAGE: &str = "compare [--cases N] [--seed S] [--programs N] [--record FILE] [--record-runs FILE]
+  --cases N           generated saves (default 10000)
+  --seed S            what they are made from (default 1)
+  --programs N        only run the programs dump and normal, on N generated saves
+  --record FILE       only write a sample of the original's answers to FILE
+  --record-runs FILE  only write to FILE what the programs should print, by the original's tokens";
 
 pub struct Arguments {
     pub cases: usize,
     pub seed: u64,
     pub programs: Option<usize>,
     pub record: Option<PathBuf>,
+    pub record_runs: Option<PathBuf>,
 }
 
 impl Arguments {
     pub fn read(mut words: impl Iterator<Item = String>) -> Result<Arguments, &'static str> {
-        let mut arguments = Arguments { cases: 10_000, seed: 1, programs: None, record: None };
+        let mut arguments = Arguments { cases: 10_000, seed: 1, programs: None, record: None, record_runs: None };
         while let Some(word) = words.next() {
             let value = words.next().ok_or(USAGE)?;
             match word.as_str() {
@@ -25,6 +27,7 @@ impl Arguments {
                 "--seed" => arguments.seed = value.parse().map_err(|_| USAGE)?,
                 "--programs" => arguments.programs = Some(value.parse().map_err(|_| USAGE)?),
                 "--record" => arguments.record = Some(value.into()),
+                "--record-runs" => arguments.record_runs = Some(value.into()),
                 _ => return Err(USAGE),
             }
         }

@@ -27,6 +27,9 @@ fn main() -> ExitCode {
     if let Some(file) = &arguments.record {
         return record::record(file, arguments.seed);
     }
+    if let Some(file) = &arguments.record_runs {
+        return record::record_runs(file);
+    }
     let mut run = Run::new();
     let mut rng = Rng::new(arguments.seed);
     match arguments.programs {

@@ -4,10 +4,10 @@ use Rattle.replay.proofs.replay.Statement.{statement}
 use Rattle.replay.proofs.replay.Tie as tie
 
 abbrev Inv-loop : tie.InvT-loop
-Inv-loop fd numbers₀ input₀ s₀ turns₀ numbers input s turns = Unit
+Inv-loop fd numbers₀ bytes₀ s₀ turns₀ numbers bytes s turns = Unit
 
 abbrev μ-loop : tie.MeasureT-loop
-μ-loop fd numbers₀ input₀ s₀ turns₀ numbers input s turns = turns
+μ-loop fd numbers₀ bytes₀ s₀ turns₀ numbers bytes s turns = turns
 
 new-requires : tie.Need-new-requires Inv-loop μ-loop
 new-requires c κs = search needs

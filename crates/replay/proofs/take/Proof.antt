@@ -6,10 +6,10 @@ use Rattle.replay.proofs.take.Statement.{statement}
 use Rattle.replay.proofs.take.Tie as tie
 
 abbrev Inv-loop : tie.InvT-loop
-Inv-loop piece numbers₀ input₀ now₀ i₀ numbers input now i = i ≤ length piece
+Inv-loop piece numbers₀ bytes₀ now₀ i₀ numbers bytes now i = i ≤ length piece
 
 abbrev μ-loop : tie.MeasureT-loop
-μ-loop piece numbers₀ input₀ now₀ i₀ numbers input now i = length piece - i
+μ-loop piece numbers₀ bytes₀ now₀ i₀ numbers bytes now i = length piece - i
 
 loop-holds : tie.Need-loop-holds Inv-loop μ-loop
 loop-holds c = search needs

@@ -5,7 +5,7 @@ use protocol::{Answer, hex};
 use std::fmt::{Display, Formatter, Result};
 
 /// The calls by their numbers, from 1. The replay has the same table, so that a new call goes to the end.
-pub const CALLS: [&str; 28] = [
+pub const CALLS: [&str; 32] = [
     "into_kind",
     "is_id",
     "get_split",
@@ -34,9 +34,13 @@ pub const CALLS: [&str; 28] = [
     "read_rgb",
     "skip_value",
     "skip_container",
+    "write",
+    "normalise",
+    "list",
+    "next_token_fast",
 ];
 
-/// A question with the answer that is expected.
+/// A question with the answer that is expected, without the end of its line.
 pub struct Entry<'a> {
     pub call: &'static str,
     pub at: usize,
@@ -63,6 +67,6 @@ impl Display for Entry<'_> {
         for word in self.answer.words {
             write!(f, " {word}")?;
         }
-        writeln!(f, " {}", hex(self.bytes))
+        write!(f, " {}", hex(self.bytes))
     }
 }

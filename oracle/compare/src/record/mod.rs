@@ -2,6 +2,8 @@
 
 mod cases;
 mod entry;
+mod outputs;
+mod runs;
 mod sample;
 
 pub use entry::{Entry, Recorded};
@@ -15,11 +17,19 @@ use std::process::ExitCode;
 pub fn record(file: &Path, seed: u64) -> ExitCode {
     let mut sample = Sample::default();
     cases::all(&mut sample, seed);
-    match fs::write(file, header(seed) + &sample.lines()) {
-        Ok(()) => {
-            sample.print_counts();
-            ExitCode::SUCCESS
-        }
+    outputs::all(&mut sample, seed);
+    sample.print_counts();
+    write(file, header(seed) + &sample.lines())
+}
+
+/// What the programs print.
+pub fn record_runs(file: &Path) -> ExitCode {
+    write(file, runs::runs())
+}
+
+fn write(file: &Path, text: String) -> ExitCode {
+    match fs::write(file, text) {
+        Ok(()) => ExitCode::SUCCESS,
         Err(error) => {
             eprintln!("{}: {error}", file.display());
             ExitCode::FAILURE
@@ -35,12 +45,17 @@ fn header(seed: u64) -> String {
     format!(
         "\
 # Answers of {origin}, written by: oracle/run --seed {seed} --record FILE
-# The original answered; the port was not asked. The original has no call 4 and cannot stand past its input (code 7): there the
-# answer is the paper's.
-# CALL AT ARG CODE W0 W1 W2 W3 W4 W5 W6 W7 INPUT
-# AT: the cursor, or a text's start. ARG: an id, a count, or a text's length. Either is 0 where the call takes none.
-# CODE: what the C function returns. W0 to W7: the words that it puts into the lent list, 0 where it is lent none.
-# INPUT: lower-case hex, - for no bytes. All else is decimal.
+# The original answered; the port was not asked. Where it cannot be asked, the answer is the paper's: it has no call 4, no place past its
+# input (code 7), no refusal of a token that would not read back (3) or for want of room (4), no words that are no token (101), and no
+# step over less than 16 bytes (call 32). Calls 30 and 31 are made from its tokens, in its own spelling and in the paper's words.
+# CALL AT ARG CODE W0 W1 W2 W3 W4 W5 W6 W7 INPUT, and for the calls from 29 on INPUT/OUTPUT
+# AT: the cursor, a text's start, or how many bytes are lent. ARG: an id, a count, a text's length, or a kind. Either is 0 where the call
+# takes none.
+# CODE: what the C function returns. W0 to W7: the words that it puts into the lent list, 0 where it is lent none, and the largest number
+# where it leaves them (101).
+# INPUT: for call 29 the token's five words, eight bytes each, and the bytes; for call 32 the held bytes and the window.
+# OUTPUT: what the call leaves at the front of the lent bytes; those after it are as they were.
+# INPUT and OUTPUT are lower-case hex, - for no bytes. All else is decimal.
 # Calls: {calls}
 "
     )

@@ -1,10 +1,13 @@
 //! The lines, each once.
 
-use super::entry::{CALLS, Recorded};
+use super::entry::{CALLS, Entry, Recorded};
+use protocol::hex;
 use std::collections::BTreeSet;
 
 /// The longest input that is recorded.
 pub const LONGEST: usize = 256;
+/// The most bytes that a recorded call is lent.
+pub const LONGEST_OUTPUT: usize = 1024;
 
 #[derive(Default)]
 pub struct Sample {
@@ -16,12 +19,21 @@ pub struct Sample {
 impl Sample {
     pub fn add(&mut self, case: &impl Recorded) {
         for entry in case.entries() {
-            assert!(entry.bytes.len() <= LONGEST, "an input of {} bytes", entry.bytes.len());
-            let line = entry.to_string();
-            if self.seen.insert(line.clone()) {
-                self.counts[entry.index()] += 1;
-                self.lines.push(line);
-            }
+            self.put(&entry, format!("{entry}\n"));
+        }
+    }
+
+    /// With what the call leaves at the front of the `entry.at` bytes that it is lent.
+    pub fn add_output(&mut self, entry: &Entry, output: &[u8]) {
+        assert!(entry.at <= LONGEST_OUTPUT, "{} bytes lent", entry.at);
+        self.put(entry, format!("{entry}/{}\n", hex(output)));
+    }
+
+    fn put(&mut self, entry: &Entry, line: String) {
+        assert!(entry.bytes.len() <= LONGEST, "an input of {} bytes", entry.bytes.len());
+        if self.seen.insert(line.clone()) {
+            self.counts[entry.index()] += 1;
+            self.lines.push(line);
         }
     }
 

@@ -38,7 +38,7 @@ impl Program {
     }
 
     /// What the paper has it print.
-    fn prints(self, bytes: &[u8]) -> Vec<u8> {
+    pub fn prints(self, bytes: &[u8]) -> Vec<u8> {
         if bytes.len() > self.longest() {
             return b"too long\n".to_vec();
         }

@@ -1,0 +1,94 @@
+// The calls that are lent bytes as well, by their numbers, and what they leave there.
+use crate::calls::Asked;
+use capi::lexing;
+use capi::stepping;
+use capi::writing;
+
+pub const LONGEST_OUTPUT: usize = 1024;
+
+// What the bytes are before the call.
+pub const LENT: u8 = 0xa5;
+
+// The call, which is lent the first of the bytes.
+pub(crate) fn ask(
+    call: u64,
+    bytes: &[u8],
+    room: usize,
+    arg: usize,
+    out: &mut [u8],
+    answer: &mut [u64],
+) -> Asked {
+    if room <= out.len() {
+        return ask_within(call, bytes, arg, &mut out[..room], answer);
+    }
+    Asked::Nothing
+}
+
+// The numbers go on from those of the other calls.
+fn ask_within(call: u64, bytes: &[u8], arg: usize, out: &mut [u8], answer: &mut [u64]) -> Asked {
+    match call {
+        29 => write(bytes, arg, out, answer),
+        30 => Asked::Code(writing::stivlaheim_normalise(bytes, out, answer)),
+        31 => Asked::Code(writing::stivlaheim_list(bytes, out, answer)),
+        32 => next_token_fast(bytes, out, answer),
+        _ => Asked::Nothing,
+    }
+}
+
+// The token's five words stand before the bytes.
+fn write(bytes: &[u8], kind: usize, out: &mut [u8], answer: &mut [u64]) -> Asked {
+    if kind > 0xffff_ffff {
+        return Asked::Nothing;
+    }
+    if bytes.len() < 40 {
+        return Asked::Nothing;
+    }
+    let words = [
+        word(bytes, 0),
+        word(bytes, 8),
+        word(bytes, 16),
+        word(bytes, 24),
+        word(bytes, 32),
+    ];
+    Asked::Code(writing::stivlaheim_write(&bytes[40..], kind as u32, &words, out, answer))
+}
+
+fn word(bytes: &[u8], at: usize) -> u64 {
+    let mut answer = [0u64; 8];
+    lexing::stivlaheim_read_u64(bytes, at, &mut answer);
+    answer[1]
+}
+
+// The held bytes stand before the window.
+fn next_token_fast(bytes: &[u8], held: &mut [u8], answer: &mut [u64]) -> Asked {
+    let n = held.len();
+    if n > bytes.len() {
+        return Asked::Nothing;
+    }
+    copy(bytes, held);
+    Asked::Code(stepping::stivlaheim_next_token_fast(&bytes[n..], held, answer))
+}
+
+fn copy(from: &[u8], to: &mut [u8]) {
+    let mut i: usize = 0;
+    while i < to.len() {
+        to[i] = or_lent(from, i);
+        i += 1;
+    }
+}
+
+// The bytes are those of the output, and after them as they were.
+pub(crate) fn same_output(output: &[u8], out: &[u8; LONGEST_OUTPUT]) -> bool {
+    let mut i: usize = 0;
+    while i < LONGEST_OUTPUT {
+        if out[i] != or_lent(output, i) {
+            return false;
+        }
+        i += 1;
+    }
+    true
+}
+
+fn or_lent(bytes: &[u8], i: usize) -> u8 {
+    if i < bytes.len() { bytes[i] } else { LENT }
+}

@@ -1,0 +1,173 @@
+//! Calls that are lent bytes: what they leave there is recorded too.
+
+use super::entry::Entry;
+use super::sample::{LONGEST, LONGEST_OUTPUT, Sample};
+use crate::case::Case;
+use crate::dump::dump;
+use crate::lent::SeenLent;
+use crate::stages::SPECIMENS;
+use crate::subjects::{Dump, Fast, Normal, Write, normal_form};
+use protocol::{Answer, Colour, Request, Token, WORDS, code};
+use saves::{Flavour, Plan, RESERVED, Rng, bad_colour, flip, narrow, random_bytes, random_ids, save, token};
+
+/// The ends of one to eight bytes, of signed numbers, and of lookups that can be written.
+const ENDS: [u64; 12] =
+    [0, 1, 0xff, 0x100, 0xff_ffff, 0x100_0000, 0x7fff_ffff, 0x8000_0000, 0xffff_ffff, 1 << 56, 1 << 63, u64::MAX];
+
+pub fn all(sample: &mut Sample, seed: u64) {
+    let mut rng = Rng::new(seed);
+    tokens(sample);
+    no_tokens(sample);
+    places(sample);
+    specimens(sample);
+    for flavour in Flavour::ALL {
+        saves(sample, &mut rng, flavour);
+    }
+    noise(sample, &mut rng);
+    steps(sample, &mut rng);
+}
+
+/// Every kind with the ends of its values, and each reserved id as a plain one.
+fn tokens(sample: &mut Sample) {
+    let mut tokens = vec![Token::Open, Token::Close, Token::Equal, Token::Bool(false), Token::Bool(true)];
+    for number in ENDS {
+        let (low, bytes) = (number as u32, number.to_le_bytes());
+        tokens.extend([Token::U32(low), Token::I32(low.cast_signed()), Token::F32(low.to_le_bytes())]);
+        tokens.extend([Token::U64(number), Token::I64(number.cast_signed()), Token::F64(bytes)]);
+        tokens.extend([Token::Lookup(low), Token::Id(number as u16)]);
+        tokens.extend([None, Some(low)].map(|a| Token::Rgb(Colour { r: low, g: 2, b: (number >> 32) as u32, a })));
+    }
+    for length in [0, 1, 3, 200] {
+        let text: Vec<u8> = (0..length).map(|at| at ^ 0x61).collect();
+        tokens.extend([Token::Quoted(text.clone()), Token::Unquoted(text)]);
+    }
+    for token in tokens {
+        let (kind, words) = token.words();
+        for room in rooms(original::spelling(&token).len()) {
+            write(sample, token.text(), kind, words, room);
+        }
+    }
+    for id in RESERVED {
+        write(sample, &[], 14, [id.into(), 0, 0, 0, 0], 16);
+    }
+}
+
+/// No kind, and words that are no value of their kind.
+fn no_tokens(sample: &mut Sample) {
+    for kind in [15, 0x0100_0003, u32::MAX] {
+        write(sample, &[1, 2], kind, [1; 5], 16);
+    }
+    for (kind, word) in [(3, 1 << 32), (5, 1 << 31), (6, 2), (9, 1 << 32), (11, 1 << 32), (13, 1 << 32), (14, 1 << 16)]
+    {
+        write(sample, &[], kind, [word, 0, 0, 0, 0], 40);
+    }
+    write(sample, &[], 11, [1, 2, 3, 2, 0], 40);
+    write(sample, &[], 11, [1, 2, 3, 1, 1 << 32], 40);
+}
+
+/// Texts whose end is at the end of the bytes or of all numbers.
+fn places(sample: &mut Sample) {
+    let ends = [0, 1, 8, 9, 10, u64::MAX - 8, u64::MAX];
+    for start in ends {
+        for len in ends {
+            write(sample, &[7, 1, 2, 3, 4, 5, 6, 7, 8], 7, [start, len, 0, 0, 0], 13);
+        }
+    }
+}
+
+fn specimens(sample: &mut Sample) {
+    for line in SPECIMENS.lines() {
+        let (request, _) = line.split_once(" => ").expect("request => answer");
+        if let Request::Normal { bytes, .. } | Request::Dump { bytes } | Request::Lex { bytes, .. } =
+            Request::parse(request).expect("a request")
+        {
+            whole(sample, &bytes);
+        }
+    }
+}
+
+/// Whole, without wide lookups, cut somewhere, and damaged.
+fn saves(sample: &mut Sample, rng: &mut Rng, flavour: Flavour) {
+    for size in [12, 40, 80] {
+        let mut bytes = save(Plan { flavour, size, longest_text: 12 }, rng);
+        whole(sample, &bytes);
+        narrow(&mut bytes);
+        whole(sample, &bytes);
+        whole(sample, &bytes[..rng.below(bytes.len())]);
+        whole(sample, &[&[4, 0].repeat(rng.below(3)), &bytes[..]].concat());
+        flip(rng, &mut bytes);
+        whole(sample, &bytes);
+    }
+}
+
+fn noise(sample: &mut Sample, rng: &mut Rng) {
+    for _ in 0..8 {
+        whole(sample, &random_bytes(rng, 32));
+        whole(sample, &random_ids(rng, 32));
+        whole(sample, &bad_colour(rng));
+    }
+}
+
+/// Every reserved id and some others with windows of few and of enough bytes, texts about the window's end, and held
+/// bytes that are not eight.
+fn steps(sample: &mut Sample, rng: &mut Rng) {
+    for id in RESERVED.into_iter().chain([0x0000, 0x0002, 0x0d56, 0x2801, 0xffff]) {
+        let window = [token(rng, id, 8), vec![0x5a; 16]].concat();
+        for len in [2, 15, 16, window.len()] {
+            step(sample, &rng.number().to_le_bytes(), &window[..len]);
+        }
+    }
+    for id in [0x000fu16, 0x0017, 0x0d5e] {
+        for len in [0u16, 11, 12, 13, 0x0100, 0xffff] {
+            let window = [&id.to_le_bytes()[..], &len.to_le_bytes(), &[0x74; 12]].concat();
+            step(sample, &rng.number().to_le_bytes(), &window);
+        }
+    }
+    for count in [0, 7, 9] {
+        step(sample, &vec![7; count], &[1; 16]);
+    }
+}
+
+/// The normal form and the dump, at every room that makes a difference.
+fn whole(sample: &mut Sample, bytes: &[u8]) {
+    if bytes.len() > LONGEST {
+        return;
+    }
+    for room in rooms(normal_form(bytes).map_or(bytes.len(), |form| form.len())) {
+        add(sample, "normalise", [room, 0], &Normal::new(bytes, room).expected(), bytes);
+    }
+    for room in rooms(dump(bytes).len()) {
+        add(sample, "list", [room, 0], &Dump::new(bytes, room).expected(), bytes);
+    }
+}
+
+fn write(sample: &mut Sample, bytes: &[u8], kind: u32, words: [u64; 5], room: usize) {
+    let seen = Write::new(bytes, kind, &words, room).expected();
+    let input = [words.map(u64::to_le_bytes).as_flattened(), bytes].concat();
+    add(sample, "write", [room, kind as usize], &seen, &input);
+}
+
+fn step(sample: &mut Sample, held: &[u8], window: &[u8]) {
+    let seen = Fast::new(held, window).expected();
+    let answer = answer(&seen);
+    let bytes = [held, window].concat();
+    let entry = Entry { call: "next_token_fast", at: held.len(), arg: 0, answer, bytes: &bytes };
+    sample.add_output(&entry, seen.lent());
+}
+
+/// A byte too few, just enough, and one more.
+fn rooms(need: usize) -> impl Iterator<Item = usize> {
+    [need.checked_sub(1), Some(need), Some(need + 1)].into_iter().flatten().filter(|room| *room <= LONGEST_OUTPUT)
+}
+
+fn add(sample: &mut Sample, call: &'static str, [at, arg]: [usize; 2], seen: &SeenLent, bytes: &[u8]) {
+    let answer = answer(seen);
+    let written = if answer.code == code::ANSWERED { answer.words[0] as usize } else { 0 };
+    sample.add_output(&Entry { call, at, arg, answer, bytes }, &seen.lent()[..written]);
+}
+
+/// Words that are left alone are the largest number, which the replay lends.
+fn answer(seen: &SeenLent) -> Answer {
+    let answer = seen.seen.answer();
+    if answer.code == code::BAD_ARGUMENT { Answer { words: [u64::MAX; WORDS], ..answer } } else { answer }
+}
