@@ -23,6 +23,7 @@ use Rattle.form.specs.Spelling.{spell, wide}
 use Rattle.form.specs.Saves.{Walk, done, cut, walk, values, tokens, spellAll, normal}
 use Rattle.form.specs.Writing.{Output, written, unwritten, Outcome, wrote, declined, outcome, leaves, fitted, firstRefusal, unless}
 use Rattle.form.proofs.LittleEndian.{bytes-all}
+use Rattle.form.proofs.Runs.{sets-append, sets-front}
 use Rattle.form.proofs.Walking.{from, from-start, from-end}
 use Rattle.payload.proofs.Laws.{gotOf}
 use Rattle.token.specs.declared.Token.{Token}
@@ -33,7 +34,6 @@ use Rattle.writer.specs.declared.Wrote.{Wrote}
 use Rattle.writer.specs.declared.Wrote.the-variants as W
 use Rattle.writer.proofs.Wrote.{the-type}
 use Rattle.writer.specs.Writes.{writeToken, wroteOutcome, Follows}
-use Rattle.writer.proofs.Stores.{sets-append, sets-front}
 use Rattle.writer.proofs.Fitting.{never, fitted-written, fitted-refused}
 use Rattle.normaliser.specs.declared.Normalised.{Normalised}
 use Rattle.normaliser.specs.declared.Normalised.the-variants.{Written, NotEncodable}

@@ -1,21 +1,15 @@
 -- Runs of stores, `sets`: a turn of a loop that copies, its end, and how two runs compose. Assumes nothing.
-use mathlib.Core.Path.{_≡_, refl, sym, ap, _∙_}
-use mathlib.Core.List.{List, [], _∷_, _++_}
+use mathlib.Core.Path.{_≡_, refl, ap, _∙_}
+use mathlib.Core.List.{List, _++_}
 use Prim.Native.Nat.{ℕ, zero, suc, _+_, _-_, _≤_, _<_}
-use native.Mathlib.Nat.{not-suc-le-zero, add-zero, add-suc, suc-add}
+use native.Mathlib.Nat.{not-suc-le-zero}
 use native.Mathlib.Numerals.{add-one, sub-one}
 use native.Mathlib.Omega.{arith}
 use lib.ListN.{length, take, drop, getD, set, length-drop}
 use lib.Seq.{sets, sets-eq, drop-cons, drop-drop, drop-set-lt, take-at, take-add, length-take-le}
+use Rattle.form.proofs.Runs.{sets-append}
 
--- two runs, one after the other, are one run
-sets-append : (a b l : List ℕ) (i : ℕ) → sets (sets l i a) (i + length a) b ≡ sets l i (a ++ b)
-sets-append [] b l i = ap (λ (k : ℕ). sets l k b) (add-zero i)
-sets-append (x ∷ a) b l i =
-    ap (λ (k : ℕ). sets (sets (set l i x) (suc i) a) k b) (add-suc i (length a) ∙ sym (suc-add i (length a)))
-    ∙ sets-append a b (set l i x) (suc i)
-
--- the same, where the second begins at a place that is given otherwise
+-- two runs are one run, where the second begins at a place that is given otherwise
 pub sets-then : (a b l : List ℕ) (i j : ℕ) → j ≡ i + length a → sets (sets l i a) j b ≡ sets l i (a ++ b)
 sets-then a b l i j h = ap (λ (k : ℕ). sets (sets l i a) k b) h ∙ sets-append a b l i
 

@@ -1,21 +1,15 @@
 -- Laws of a run of stores: the step and the end of a loop that writes, and how two runs compose. Assumes nothing.
 use Prim.Native.Nat.{ℕ, zero, suc, _+_, _-_, _/_, _%_, _≤_, _<_}
-use native.Mathlib.Nat.{not-suc-le-zero, zero-add, add-zero, add-suc, suc-add}
+use native.Mathlib.Nat.{not-suc-le-zero, add-suc}
 use native.Mathlib.Numerals.{add-one, sub-one}
 use native.Mathlib.Omega.{arith}
-use mathlib.Core.Path.{_≡_, refl, sym, ap, _∙_}
-use mathlib.Core.List.{List, [], _∷_, _++_}
+use mathlib.Core.Path.{_≡_, refl, ap, _∙_}
+use mathlib.Core.List.{List, _++_}
 use lib.ListN.{length, drop, getD, set, length-append, drop-of-length-le}
-use lib.Seq.{sets, sets-eq, drop-cons, length-sets}
+use lib.Seq.{sets, drop-cons, length-sets}
 use Rattle.form.specs.Numbers.{leBytes}
+use Rattle.form.proofs.Runs.{sets-append, sets-front}
 use Rattle.writer.specs.Put.{Put}
-
--- two runs, one after the other, are one run
-pub sets-append : (a b l : List ℕ) (i : ℕ) → sets (sets l i a) (i + length a) b ≡ sets l i (a ++ b)
-sets-append [] b l i = ap (λ (k : ℕ). sets l k b) (add-zero i)
-sets-append (x ∷ a) b l i =
-    ap (λ (k : ℕ). sets (sets (set l i x) (suc i) a) k b) (add-suc i (length a) ∙ sym (suc-add i (length a)))
-    ∙ sets-append a b (set l i x) (suc i)
 
 pub put-then : {d d₁ d₂ : List ℕ} {i r₁ r₂ : ℕ} {a b : List ℕ} → Put d i a d₁ r₁ → Put d₁ r₁ b d₂ r₂ → Put d i (a ++ b) d₂ r₂
 put-then {d} {d₁} {d₂} {i} {r₁} {r₂} {a} {b} p q = record {
@@ -27,9 +21,6 @@ pub put-length : {d d′ : List ℕ} {i r : ℕ} {bs : List ℕ} → Put d i bs 
 put-length {d} {d′} {i} {r} {bs} p = ap length (p .bytes) ∙ length-sets d i bs
 
 -- at the front, with room
-pub sets-front : (bs d : List ℕ) → length bs ≤ length d → sets d 0 bs ≡ bs ++ drop (length bs) d
-sets-front bs d h = sets-eq bs d 0 (omega arith) ∙ ap (λ (k : ℕ). bs ++ drop k d) (zero-add (length bs))
-
 pub put-front : {d d′ bs : List ℕ} {r : ℕ} → length bs ≤ length d → Put d 0 bs d′ r → d′ ≡ bs ++ drop (length bs) d
 put-front {d} {d′} {bs} h p = p .bytes ∙ sets-front bs d h
 
