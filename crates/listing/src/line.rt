@@ -113,7 +113,7 @@ fn put_shape(out: &mut [u8], at: usize, bytes: &[u8], shape: Shape) -> usize
 }
 
 // The line of the token t at position p.
-pub fn put_line(out: &mut [u8], at: usize, bytes: &[u8], p: usize, t: Token) -> usize
+pub(crate) fn put_line(out: &mut [u8], at: usize, bytes: &[u8], p: usize, t: Token) -> usize
     ensures { λ r. ⌜ Put (now (out .entry)) at (lineOf (now (bytes .entry)) p (partsOf t)) (now (out .exit)) r ⌝ }
 {
     let what = parts_of(t);

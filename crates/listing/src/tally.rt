@@ -16,7 +16,7 @@ pub struct Tally {
 }
 
 impl Tally {
-    pub fn new() -> Tally
+    pub(crate) fn new() -> Tally
         ensures { λ r. ⌜ r ≡ none ⌝ }
     {
         Tally {

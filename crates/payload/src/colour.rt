@@ -25,7 +25,7 @@ pub enum ReadChannel {
 }
 
 impl ReadChannel {
-    pub fn refusal(self) -> LexError
+    pub(crate) fn refusal(self) -> LexError
         ensures { λ r. ⌜ faultOf r ≡ why (channelAnswer self) ⌝ }
     {
         match self {
