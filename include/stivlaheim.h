@@ -193,6 +193,104 @@ uint32_t stivlaheim_normalise(const uint8_t *bytes, size_t bytes_len, uint8_t *o
  * read refuses nothing: the text says so. */
 uint32_t stivlaheim_list(const uint8_t *bytes, size_t bytes_len, uint8_t *out, size_t out_len, uint64_t *answer, size_t answer_len);
 
+/* ---- The window: a source of bytes, whose state is six words that a caller keeps
+ *
+ * The words of a state: where the unread bytes start and where they end, how many bytes of the supply are handed over, how many entries of
+ * the schedule are used, the position (how many bytes were read through the source), and 1 for a stream or 0 for a slice. A stream's unread
+ * bytes stand in `buffer`; a slice's stand in `supply`, and no element of its buffer or schedule is looked at: give lists that have none.
+ *
+ * One read of a stream uses one entry of the schedule: STIVLAHEIM_FAILS fails, another number hands over the least of it, the room in the
+ * buffer and what is left of the supply. After the last entry a read hands over as much as is left and there is room for.
+ *
+ * Each call takes the state in `state`, and puts the state to go on with into its first six words, refused or not. Word 0 of the answer is
+ * the position after the call; a part's words are where it begins, in the bytes that hold the unread ones, and its length.
+ * BAD_ARGUMENT, after the test of the answer list, if `state` has fewer than six words or its sixth is over 1. Then BAD_PLACE with the first
+ * number of the state that does not fit, and nothing is moved. BUFFER_TOO_SMALL, READ_FAILED and EOF have the position. */
+
+/* The schedule's entry for a read that fails. */
+#define STIVLAHEIM_FAILS UINT32_C(0xffffffff)
+
+/* The words of a state. */
+enum { STIVLAHEIM_STATE_WORDS = 6 };
+
+/* The state of a source over a slice. Returns ANSWERED, or BAD_ARGUMENT if `state` has fewer than six words. */
+uint32_t stivlaheim_source_from_slice(const uint8_t *slice, size_t slice_len, uint64_t *state, size_t state_len);
+
+/* The state of a stream before its first call. Returns as stivlaheim_source_from_slice. */
+uint32_t stivlaheim_source_from_reader(uint64_t *state, size_t state_len);
+
+/* Has `count` bytes unread, reading as needed. It has no words. */
+uint32_t stivlaheim_source_ensure_bytes(uint8_t *buffer, size_t buffer_len, const uint8_t *supply, size_t supply_len,
+                                        const uint32_t *schedule, size_t schedule_len, uint64_t *state, size_t state_len,
+                                        size_t count, uint64_t *answer, size_t answer_len);
+
+/* Reads once, behind the unread bytes, which move to the front of the buffer: how many bytes came, 0 for a slice. BUFFER_TOO_SMALL if the
+ * unread bytes fill the buffer. */
+uint32_t stivlaheim_source_refill(uint8_t *buffer, size_t buffer_len, const uint8_t *supply, size_t supply_len,
+                                  const uint32_t *schedule, size_t schedule_len, uint64_t *state, size_t state_len,
+                                  uint64_t *answer, size_t answer_len);
+
+/* The part that is the next `count` bytes, which stay unread. NONE in place of EOF if no byte is unread. */
+uint32_t stivlaheim_source_peek(uint8_t *buffer, size_t buffer_len, const uint8_t *supply, size_t supply_len,
+                                const uint32_t *schedule, size_t schedule_len, uint64_t *state, size_t state_len,
+                                size_t count, uint64_t *answer, size_t answer_len);
+
+/* The part that is the next `count` bytes, which are read. */
+uint32_t stivlaheim_source_take(uint8_t *buffer, size_t buffer_len, const uint8_t *supply, size_t supply_len,
+                                const uint32_t *schedule, size_t schedule_len, uint64_t *state, size_t state_len,
+                                size_t count, uint64_t *answer, size_t answer_len);
+
+/* The same, and NONE in place of EOF if no byte is unread. */
+uint32_t stivlaheim_source_try_take(uint8_t *buffer, size_t buffer_len, const uint8_t *supply, size_t supply_len,
+                                    const uint32_t *schedule, size_t schedule_len, uint64_t *state, size_t state_len,
+                                    size_t count, uint64_t *answer, size_t answer_len);
+
+/* As stivlaheim_source_take. */
+uint32_t stivlaheim_source_take_bytes(uint8_t *buffer, size_t buffer_len, const uint8_t *supply, size_t supply_len,
+                                      const uint32_t *schedule, size_t schedule_len, uint64_t *state, size_t state_len,
+                                      size_t count, uint64_t *answer, size_t answer_len);
+
+/* As stivlaheim_source_try_take. */
+uint32_t stivlaheim_source_try_take_bytes(uint8_t *buffer, size_t buffer_len, const uint8_t *supply, size_t supply_len,
+                                          const uint32_t *schedule, size_t schedule_len, uint64_t *state, size_t state_len,
+                                          size_t count, uint64_t *answer, size_t answer_len);
+
+/* Reads `count` of the unread bytes: a bool, which is 0 if there are fewer, and then none is read. */
+uint32_t stivlaheim_source_advance(const uint8_t *buffer, size_t buffer_len, const uint8_t *supply, size_t supply_len,
+                                   const uint32_t *schedule, size_t schedule_len, uint64_t *state, size_t state_len,
+                                   size_t count, uint64_t *answer, size_t answer_len);
+
+/* How many bytes are unread. */
+uint32_t stivlaheim_source_window_len(const uint8_t *buffer, size_t buffer_len, const uint8_t *supply, size_t supply_len,
+                                      const uint32_t *schedule, size_t schedule_len, uint64_t *state, size_t state_len,
+                                      uint64_t *answer, size_t answer_len);
+
+/* The part that is unread. */
+uint32_t stivlaheim_source_window(const uint8_t *buffer, size_t buffer_len, const uint8_t *supply, size_t supply_len,
+                                  const uint32_t *schedule, size_t schedule_len, uint64_t *state, size_t state_len,
+                                  uint64_t *answer, size_t answer_len);
+
+/* A string, after its id: the part that is its text. Where it is refused none of it is read. */
+uint32_t stivlaheim_source_read_bstr(uint8_t *buffer, size_t buffer_len, const uint8_t *supply, size_t supply_len,
+                                     const uint32_t *schedule, size_t schedule_len, uint64_t *state, size_t state_len,
+                                     uint64_t *answer, size_t answer_len);
+
+/* The next id: two bytes. */
+uint32_t stivlaheim_source_read_lexeme_id(uint8_t *buffer, size_t buffer_len, const uint8_t *supply, size_t supply_len,
+                                          const uint32_t *schedule, size_t schedule_len, uint64_t *state, size_t state_len,
+                                          uint64_t *answer, size_t answer_len);
+
+/* The next id, which stays unread. NONE in place of EOF if no byte is unread. */
+uint32_t stivlaheim_source_peek_lexeme_id(uint8_t *buffer, size_t buffer_len, const uint8_t *supply, size_t supply_len,
+                                          const uint32_t *schedule, size_t schedule_len, uint64_t *state, size_t state_len,
+                                          uint64_t *answer, size_t answer_len);
+
+/* A colour, after its id. Each id in it is judged as it comes: INVALID_RGB has the position after the one that is wrong. What was read
+ * before a refusal stays read. */
+uint32_t stivlaheim_source_read_rgb(uint8_t *buffer, size_t buffer_len, const uint8_t *supply, size_t supply_len,
+                                    const uint32_t *schedule, size_t schedule_len, uint64_t *state, size_t state_len,
+                                    uint64_t *answer, size_t answer_len);
+
 /* ---- The fast step */
 
 /* The next token of a window, with its number, length or id in eight held bytes: word 0 is its length, word 1 its kind. NONE, with word 0

@@ -1,7 +1,8 @@
 pub mod Laws
 pub mod Counts
-pub mod Signs
+pub mod Widening
 pub mod Unique
 pub mod Ranges
 pub mod Writes
 pub mod Eights
+pub mod Called

@@ -6,3 +6,4 @@ pub mod Counting
 pub mod Outputs
 pub mod Given
 pub mod Steps
+pub mod Sources

@@ -4,7 +4,7 @@ use native.Mathlib.Omega.{arith}
 use mir.Syntax.{w64}
 use mir.Val.{ofZ}
 use lib.IntN.{natAbs}
-use Rattle.capi.proofs.Signs.{below, more-fits, less-fits, three, bits-are, positive}
+use Rattle.form.proofs.Signs.{below, more-fits, less-fits, less-shown, bits-are, positive}
 use Rattle.capi.proofs.bits.of_i64.Statement.{statement}
 use Rattle.capi.proofs.bits.of_i64.Tie as tie
 
@@ -15,10 +15,10 @@ sub-m : tie.Need-sub-m
 sub-m c = less-fits w64 (c .before .args .x) (c .before .fits .x) (c .if1 .taken)
 
 cast-m : tie.Need-cast-m
-cast-m c = rw (three w64 (c .before .args .x) (c .before .fits .x) (c .if1 .taken)) (tt, record { fits = omega (arith, below w64 (c .before .args .x) (c .before .fits .x) (c .if1 .taken)) })
+cast-m c = rw (less-shown w64 (c .before .args .x) (c .before .fits .x) (c .if1 .taken)) (tt, record { fits = omega (arith, below w64 (c .before .args .x) (c .before .fits .x) (c .if1 .taken)) })
 
 sub-result : tie.Need-sub-result
-sub-result c = rw (three w64 (c .before .args .x) (c .before .fits .x) (c .if1 .taken)) (omega (arith, below w64 (c .before .args .x) (c .before .fits .x) (c .if1 .taken)))
+sub-result c = rw (less-shown w64 (c .before .args .x) (c .before .fits .x) (c .if1 .taken)) (omega (arith, below w64 (c .before .args .x) (c .before .fits .x) (c .if1 .taken)))
 
 cast-result : tie.Need-cast-result
 cast-result c =
@@ -27,7 +27,7 @@ cast-result c =
     rw (p .2) (tt, record { fits = omega (arith, b) })
 
 returns : tie.Need-returns
-returns c = rw (three w64 (c .before .args .x) (c .before .fits .x) (c .if1 .taken), bits-are w64 (c .before .args .x) (c .before .fits .x) (c .if1 .taken)) (omega arith)
+returns c = rw (less-shown w64 (c .before .args .x) (c .before .fits .x) (c .if1 .taken), bits-are w64 (c .before .args .x) (c .before .fits .x) (c .if1 .taken)) (omega arith)
 
 returns-2 : tie.Need-returns-2
 returns-2 c =

@@ -32,7 +32,7 @@ slice-write-answer-7 : tie.Need-slice-write-answer-7
 slice-write-answer-7 c = simp length-set (omega arith)
 
 slice-write-answer-8 : tie.Need-slice-write-answer-8
-slice-write-answer-8 c = search needs
+slice-write-answer-8 c = simp length-set (omega arith)
 
 same-length : tie.Need-same-length
 same-length c = search needs

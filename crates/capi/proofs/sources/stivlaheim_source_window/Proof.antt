@@ -1,0 +1,74 @@
+-- `capi::sources::stivlaheim_source_window` meets its contract. Assumes nothing.
+use mathlib.Core.Path.{ap}
+use Rattle.payload.specs.declared.answers.Text.{Text}
+use Rattle.source.specs.Window.{Step}
+use Rattle.source.specs.Answers.{windowLenAnswer}
+use Rattle.capi.specs.Sources.{partOf, windowPart}
+use Rattle.capi.proofs.Called.{not-asked, six-words, answers}
+use borrow.Author.Needs.{needs}
+use Rattle.capi.proofs.sources.stivlaheim_source_window.Statement.{statement}
+use Rattle.capi.proofs.sources.stivlaheim_source_window.Tie as tie
+
+ask-requires : tie.Need-ask-requires
+ask-requires c κs = search needs
+
+enum-known-a : tie.Need-enum-known-a
+enum-known-a c = search needs
+
+enum-told : tie.Need-enum-told
+enum-told c = search needs
+
+number-requires : tie.Need-number-requires
+number-requires c κs = search needs
+
+same-length : tie.Need-same-length
+same-length c = search needs
+
+same-length-2 : tie.Need-same-length-2
+same-length-2 c = search needs
+
+returns : tie.Need-returns
+returns c = not-asked _ _ (c .before .before .before .ask .ensures) _ _ _ (c .before .enum-told .given .1) (c .number .ensures)
+
+window-len-requires : tie.Need-window-len-requires
+window-len-requires c κs = search needs
+
+of-window-requires : tie.Need-of-window-requires
+of-window-requires c κs = search needs
+
+hand-over-requires : tie.Need-hand-over-requires
+hand-over-requires c κs = six-words _ _ (c .before .before .before .before .before .before .before .ask .ensures) (c .before .before .before .before .before .a .given .1)
+
+same-length-3 : tie.Need-same-length-3
+same-length-3 c = search needs
+
+same-length-4 : tie.Need-same-length-4
+same-length-4 c = search needs
+
+returns-2 : tie.Need-returns-2
+unfolding windowPart
+returns-2 c =
+    let h = c .before .before .before .before in
+    let l = h .before .before .before in
+    let t = l .before in
+    let k = t .before .before in
+    let s = k .a .given .0 .0 in
+    answers _ _ (k .before .before .ask .ensures) _ _ _ (λ l. partOf (windowLenAnswer s (t .window-len .result) l)) (l .of-window .result) (k .a .given .1) (ap {B = Step Text} partOf (t .window-len .ensures)) (l .of-window .ensures) (h .hand-over .ensures)
+
+pub stivlaheim-source-window-spec : {M : Type 1} → statement M
+stivlaheim-source-window-spec =
+    tie.close
+    (tie.spec
+    ask-requires
+    enum-known-a
+    enum-told
+    number-requires
+    same-length
+    same-length-2
+    returns
+    window-len-requires
+    of-window-requires
+    hand-over-requires
+    same-length-3
+    same-length-4
+    returns-2)
