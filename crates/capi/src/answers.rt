@@ -75,7 +75,7 @@ pub(crate) fn of_i64(c: Lexer, r: LexI64) -> Reply
     ensures { λ x. ⌜ asReply x ≡ replyOf signedWords (i64Call c r) ⌝ }
 {
     match r {
-        LexI64::Got(z, next) => replies::answered(next.at, bits::of_i64(z), 0, 0),
+        LexI64::Got(z, next) => replies::answered(next.at, payload::bits::of_i64(z), 0, 0),
         LexI64::Refused(e) => replies::refused(c.at, e),
     }
 }
@@ -84,7 +84,7 @@ pub(crate) fn of_bool(c: Lexer, r: LexBool) -> Reply
     ensures { λ x. ⌜ asReply x ≡ replyOf boolWords (boolCall c r) ⌝ }
 {
     match r {
-        LexBool::Got(b, next) => replies::answered(next.at, bits::of_bool(b), 0, 0),
+        LexBool::Got(b, next) => replies::answered(next.at, payload::bits::of_bool(b), 0, 0),
         LexBool::Refused(e) => replies::refused(c.at, e),
     }
 }

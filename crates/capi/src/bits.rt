@@ -1,28 +1,10 @@
-// A number's bits, as an unsigned number.
+// A number's bits, 64 whatever its own width.
 ghost use mathlib.Core.Path.{_≡_};
 ghost use mir.Syntax.{w64};
 ghost use mir.Val.{ofZ};
-ghost use Rattle.form.specs.Spelling.{bit};
-
-pub(crate) fn of_bool(x: bool) -> u64
-    ensures { λ r. ⌜ r ≡ bit x ⌝ }
-{
-    if x { 1 } else { 0 }
-}
+use payload::bits::of_i64;
 
 // Two's complement.
-pub(crate) fn of_i64(x: i64) -> u64
-    ensures { λ r. ⌜ r ≡ ofZ w64 x ⌝ }
-{
-    if x < 0 {
-        let m = (-(x + 1)) as u64;
-        0xffff_ffff_ffff_ffff - m
-    } else {
-        x as u64
-    }
-}
-
-// The same, of 64 bits too.
 pub(crate) fn of_i32(x: i32) -> u64
     ensures { λ r. ⌜ r ≡ ofZ w64 x ⌝ }
 {

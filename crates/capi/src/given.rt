@@ -77,16 +77,6 @@ fn i32_token(x: u64) -> Given
     Given::Token(Token::I32(high))
 }
 
-fn signed64(x: u64) -> i64
-    ensures { λ r. ⌜ r ≡ toZ w64 x ⌝ }
-{
-    if x < 0x8000_0000_0000_0000 {
-        x as i64
-    } else {
-        -1 - (0xffff_ffff_ffff_ffff - x) as i64
-    }
-}
-
 // An alpha is looked at where it is said to be there.
 fn rgb_token(r: u64, g: u64, b: u64, has: u64, a: u64) -> Given
     ensures { λ x. ⌜ givenOf x ≡ colourToken r g b has a ⌝ }
@@ -153,7 +143,7 @@ pub(crate) fn of_words(kind: u32, words: &[u64]) -> Given
         9 => f32_token(x),
         10 => Given::Token(Token::F64(x)),
         11 => rgb_token(x, words[1], words[2], words[3], words[4]),
-        12 => Given::Token(Token::I64(signed64(x))),
+        12 => Given::Token(Token::I64(payload::signed64(x))),
         13 => lookup_token(x),
         14 => id_token(x),
         _ => Given::Nothing,

@@ -9,7 +9,6 @@ ghost use Rattle.capi.specs.Replies.{returned, into, replyOf, replyOrNon
 ghost use Rattle.capi.specs.Words.{noWords, numberWords, boolWords, textWords, colourWords};
 ghost use Rattle.capi.specs.Code.{asReply};
 ghost use Rattle.capi.specs.Sources.{withState, leaves, leftOf, left, partOf};
-use crate::bits;
 use crate::replies;
 use crate::replies::Reply;
 use crate::states;
@@ -96,7 +95,7 @@ pub(crate) fn of_advanced(r: Advanced) -> Left
     ensures { λ x. ⌜ leftOf x ≡ left (replyOf boolWords) (advancedAnswer r) ⌝ }
 {
     match r {
-        Advanced::Moved(b, s) => got(s, bits::of_bool(b), 0),
+        Advanced::Moved(b, s) => got(s, payload::bits::of_bool(b), 0),
         Advanced::Refused(x) => stopped(x),
     }
 }

@@ -155,12 +155,7 @@ pub extern "C" fn stivlaheim_source_take_bytes(
 ) -> u32
     ensures { λ r. ⌜ after (returned r (now (answer .exit))) (now (state .exit)) (now (buffer .exit)) ≡ called (replyOf textWords) (taken (now (supply .entry)) (now (schedule .entry)) count) (now (answer .entry)) (now (state .entry)) (now (buffer .entry)) ⌝ }
 {
-    let a = states::ask(state, answer);
-    let Asked::State(s) = a else {
-        return a.number();
-    };
-    let x = s.take_bytes(count, buffer, supply, schedule);
-    left::hand_over(left::of_taken(x), state, answer)
+    stivlaheim_source_take(buffer, supply, schedule, state, count, answer)
 }
 
 // The next bytes, which are read; none at the end.
@@ -195,12 +190,7 @@ pub extern "C" fn stivlaheim_source_try_take_bytes(
 ) -> u32
     ensures { λ r. ⌜ after (returned r (now (answer .exit))) (now (state .exit)) (now (buffer .exit)) ≡ called (replyOrNone textWords) (tried (now (supply .entry)) (now (schedule .entry)) count) (now (answer .entry)) (now (state .entry)) (now (buffer .entry)) ⌝ }
 {
-    let a = states::ask(state, answer);
-    let Asked::State(s) = a else {
-        return a.number();
-    };
-    let x = s.try_take_bytes(count, buffer, supply, schedule);
-    left::hand_over(left::of_tried(x), state, answer)
+    stivlaheim_source_try_take(buffer, supply, schedule, state, count, answer)
 }
 
 // The next bytes, which stay unread; none at the end.

@@ -4,7 +4,6 @@ ghost use Prim.Native.Nat.{_≤_};
 ghost use lib.ListN.{length};
 ghost use Rattle.capi.specs.Replies.{returned};
 ghost use Rattle.capi.specs.Sources.{stateOf, withState, asked, askedNumber, begun};
-use crate::bits;
 use source::ParserSource;
 
 // The state that is handed over, or the number to return.
@@ -64,7 +63,7 @@ pub(crate) fn put(state: &mut [u64], s: ParserSource)
     state[2] = s.supply as u64;
     state[3] = s.schedule as u64;
     state[4] = s.position as u64;
-    state[5] = bits::of_bool(s.streaming);
+    state[5] = payload::bits::of_bool(s.streaming);
 }
 
 // A new state, where there is room for it.

@@ -1,5 +1,6 @@
 // Payload reads: a slice and a place in, an answer of our own out. No position is known here.
 pub mod answers;
+pub mod bits;
 mod colour;
 mod compact;
 mod numbers;
@@ -27,6 +28,7 @@ pub use crate::answers::ReadU32;
 pub use crate::answers::ReadU64;
 pub use crate::answers::Rgb;
 pub use crate::answers::Text;
+pub use crate::numbers::signed64;
 use lexeme::LexemeId;
 
 pub fn read_id(bytes: &[u8], at: usize) -> ReadId

@@ -71,7 +71,7 @@ pub(crate) fn signed32(x: u64) -> i32
     }
 }
 
-pub(crate) fn signed64(x: u64) -> i64
+pub fn signed64(x: u64) -> i64
     ensures { λ r. ⌜ r ≡ toZ w64 x ⌝ }
 {
     if x < 9223372036854775808 {

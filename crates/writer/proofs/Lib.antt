@@ -2,7 +2,6 @@ pub mod Stores
 pub mod Sizes
 pub mod Ids
 pub mod Fitting
-pub mod Signs
 pub mod Splitting
 pub mod Judging
 pub mod Unique

@@ -1,5 +1,4 @@
 // The checked writer: one token at the front of a lent output.
-mod bits;
 mod parts;
 mod put;
 

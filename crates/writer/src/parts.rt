@@ -1,9 +1,9 @@
 // A token as the parts of its spelling.
 ghost use Rattle.writer.specs.Parts.{Splits};
-use crate::bits;
 use lexeme::LexemeId;
 use payload::Rgb;
 use payload::Text;
+use payload::bits;
 use token::Token;
 
 pub enum Parts {

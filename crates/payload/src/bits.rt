@@ -4,14 +4,14 @@ ghost use mir.Syntax.{w32, w64};
 ghost use mir.Val.{ofZ};
 ghost use Rattle.form.specs.Spelling.{bit};
 
-pub(crate) fn of_bool(x: bool) -> u64
+pub fn of_bool(x: bool) -> u64
     ensures { λ r. ⌜ r ≡ bit x ⌝ }
 {
     if x { 1 } else { 0 }
 }
 
 // Signed numbers: two's complement.
-pub(crate) fn of_i32(x: i32) -> u64
+pub fn of_i32(x: i32) -> u64
     ensures { λ r. ⌜ r ≡ ofZ w32 x ⌝ }
 {
     if x < 0 {
@@ -22,7 +22,7 @@ pub(crate) fn of_i32(x: i32) -> u64
     }
 }
 
-pub(crate) fn of_i64(x: i64) -> u64
+pub fn of_i64(x: i64) -> u64
     ensures { λ r. ⌜ r ≡ ofZ w64 x ⌝ }
 {
     if x < 0 {

@@ -1,12 +1,12 @@
--- `capi::bits::of_i64` meets its contract. Assumes nothing.
+-- `payload::bits::of_i64` meets its contract. Assumes nothing.
 use mathlib.Core.Path.{sym, ap, _∙_}
 use native.Mathlib.Omega.{arith}
 use mir.Syntax.{w64}
 use mir.Val.{ofZ}
 use lib.IntN.{natAbs}
 use Rattle.form.proofs.Signs.{below, more-fits, less-fits, less-shown, bits-are, positive}
-use Rattle.capi.proofs.bits.of_i64.Statement.{statement}
-use Rattle.capi.proofs.bits.of_i64.Tie as tie
+use Rattle.payload.proofs.bits.of_i64.Statement.{statement}
+use Rattle.payload.proofs.bits.of_i64.Tie as tie
 
 add-m : tie.Need-add-m
 add-m c = more-fits w64 (c .before .args .x) (c .before .fits .x) (c .if1 .taken)
