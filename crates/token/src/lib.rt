@@ -180,7 +180,8 @@ fn lookup_token(r: ReadU32) -> ReadToken
     ReadToken::Got(Token::Lookup(x), next)
 }
 
-// The token at a place, and the place after it.
+// The token at a place, and the place after it. Reads that are compiled as calls get a slice of their own: the address of this one is then
+// nobody's, and it stays in registers.
 pub fn read_token(bytes: &[u8], at: usize) -> ReadToken
     ensures { λ r. ⌜ tokenAnswer r ≡ tokenAt (now (bytes .entry)) at ⌝ }
 {
@@ -196,9 +197,9 @@ pub fn read_token(bytes: &[u8], at: usize) -> ReadToken
         number::U32 => u32_token(payload::read_u32(bytes, next)),
         number::I32 => i32_token(payload::read_i32(bytes, next)),
         number::F32 => f32_token(payload::read_f32(bytes, next)),
-        number::U64 => u64_token(payload::read_u64(bytes, next)),
-        number::I64 => i64_token(payload::read_i64(bytes, next)),
-        number::F64 => f64_token(payload::read_f64(bytes, next)),
+        number::U64 => u64_token(payload::read_u64(&bytes[0..], next)),
+        number::I64 => i64_token(payload::read_i64(&bytes[0..], next)),
+        number::F64 => f64_token(payload::read_f64(&bytes[0..], next)),
         number::BOOL => bool_token(payload::read_bool(bytes, next)),
         number::QUOTED => quoted_token(payload::read_string(bytes, next)),
         number::UNQUOTED | number::STR_SAV03 => unquoted_token(payload::read_string(bytes, next)),
@@ -209,7 +210,7 @@ pub fn read_token(bytes: &[u8], at: usize) -> ReadToken
             }),
             next,
         ),
-        number::RGB => rgb_token(payload::read_rgb(bytes, next)),
+        number::RGB => rgb_token(payload::read_rgb(&bytes[0..], next)),
         number::LOOKUP_U8 | number::LOOKUP_U8_ALT | number::LOOKUP_U8_SAV03 =>
             lookup_u8_token(payload::read_lookup_u8(bytes, next)),
         number::LOOKUP_U16 | number::LOOKUP_U16_ALT | number::LOOKUP_U16_SAV03 =>

@@ -12,6 +12,7 @@ use Rattle.form.proofs.Lookups.{unquoted-at, lookup1-at, lookup2-at, lookup3-at
 use Rattle.token.specs.Tokens.{tokenOf}
 use Rattle.token.specs.declared.Token.the-variants as T
 use Rattle.token.proofs.Laws.{after-id, no-id, number-at, through-at, text-at, colour-at, compact-from, nothing-at, empty-token, compact-is}
+use borrow.Rule.Slice.PartAt.{part-to-end}
 use borrow.Author.Needs.{needs}
 use Rattle.token.proofs.read_token.Statement.{statement}
 use Rattle.token.proofs.read_token.Tie as tie
@@ -49,17 +50,44 @@ read-f32-requires c κs = search needs
 f32-token-requires : tie.Need-f32-token-requires
 f32-token-requires c κs = search needs
 
+sub-read-u64 : tie.Need-sub-read-u64
+sub-read-u64 c = search needs
+
+part-read-u64-start : tie.Need-part-read-u64-start
+part-read-u64-start c = search needs
+
+part-read-u64-end : tie.Need-part-read-u64-end
+part-read-u64-end c = search needs
+
 read-u64-requires : tie.Need-read-u64-requires
 read-u64-requires c κs = search needs
 
 u64-token-requires : tie.Need-u64-token-requires
 u64-token-requires c κs = search needs
 
+sub-read-i64 : tie.Need-sub-read-i64
+sub-read-i64 c = search needs
+
+part-read-i64-start : tie.Need-part-read-i64-start
+part-read-i64-start c = search needs
+
+part-read-i64-end : tie.Need-part-read-i64-end
+part-read-i64-end c = search needs
+
 read-i64-requires : tie.Need-read-i64-requires
 read-i64-requires c κs = search needs
 
 i64-token-requires : tie.Need-i64-token-requires
 i64-token-requires c κs = search needs
+
+sub-read-f64 : tie.Need-sub-read-f64
+sub-read-f64 c = search needs
+
+part-read-f64-start : tie.Need-part-read-f64-start
+part-read-f64-start c = search needs
+
+part-read-f64-end : tie.Need-part-read-f64-end
+part-read-f64-end c = search needs
 
 read-f64-requires : tie.Need-read-f64-requires
 read-f64-requires c κs = search needs
@@ -84,6 +112,15 @@ read-string-requires-2 c κs = search needs
 
 unquoted-token-requires : tie.Need-unquoted-token-requires
 unquoted-token-requires c κs = search needs
+
+sub-read-rgb : tie.Need-sub-read-rgb
+sub-read-rgb c = search needs
+
+part-read-rgb-start : tie.Need-part-read-rgb-start
+part-read-rgb-start c = search needs
+
+part-read-rgb-end : tie.Need-part-read-rgb-end
+part-read-rgb-end c = search needs
 
 read-rgb-requires : tie.Need-read-rgb-requires
 read-rgb-requires c κs = search needs
@@ -166,15 +203,21 @@ returns-7 c = after-id _ _ (c .before .before .before .before .before .before .r
 
 returns-8 : tie.Need-returns-8
 unfolding after orPlain find entries table tokenOf
-returns-8 c = after-id _ _ (c .before .before .before .before .before .before .read-id .ensures) (c .before .before .before .before .r .given .1) (ap after (c .before .before .match2 .keys7)) (number-at _ _ 8 F.U64 (c .before .read-u64 .ensures) (c .u64-token .ensures))
+returns-8 c =
+    after-id _ _ (c .before .before .before .before .before .before .before .read-id .ensures) (c .before .before .before .before .before .r .given .1) (ap after (c .before .before .before .match2 .keys7))
+    (number-at _ _ 8 F.U64 (rw (part-to-end (c .before .before .before .before .before .before .before .before .before .args .bytes .now) 0) at (c .before .read-u64 .ensures)) (c .u64-token .ensures))
 
 returns-9 : tie.Need-returns-9
 unfolding after orPlain find entries table tokenOf
-returns-9 c = after-id _ _ (c .before .before .before .before .before .before .read-id .ensures) (c .before .before .before .before .r .given .1) (ap after (c .before .before .match2 .keys8)) (through-at _ _ 8 (toZ w64) F.I64 (c .before .read-i64 .ensures) (c .i64-token .ensures))
+returns-9 c =
+    after-id _ _ (c .before .before .before .before .before .before .before .read-id .ensures) (c .before .before .before .before .before .r .given .1) (ap after (c .before .before .before .match2 .keys8))
+    (through-at _ _ 8 (toZ w64) F.I64 (rw (part-to-end (c .before .before .before .before .before .before .before .before .before .args .bytes .now) 0) at (c .before .read-i64 .ensures)) (c .i64-token .ensures))
 
 returns-10 : tie.Need-returns-10
 unfolding after orPlain find entries table tokenOf
-returns-10 c = after-id _ _ (c .before .before .before .before .before .before .read-id .ensures) (c .before .before .before .before .r .given .1) (ap after (c .before .before .match2 .keys9)) (number-at _ _ 8 F.F64 (c .before .read-f64 .ensures) (c .f64-token .ensures))
+returns-10 c =
+    after-id _ _ (c .before .before .before .before .before .before .before .read-id .ensures) (c .before .before .before .before .before .r .given .1) (ap after (c .before .before .before .match2 .keys9))
+    (number-at _ _ 8 F.F64 (rw (part-to-end (c .before .before .before .before .before .before .before .before .before .args .bytes .now) 0) at (c .before .read-f64 .ensures)) (c .f64-token .ensures))
 
 returns-11 : tie.Need-returns-11
 unfolding after orPlain find entries table tokenOf
@@ -194,7 +237,9 @@ returns-14 c = rw (← empty-token _) (after-id _ _ (c .before .before .before .
 
 returns-15 : tie.Need-returns-15
 unfolding after orPlain find entries table tokenOf
-returns-15 c = after-id _ _ (c .before .before .before .before .before .before .read-id .ensures) (c .before .before .before .before .r .given .1) (ap after (c .before .before .match2 .keys14)) (colour-at _ _ (c .before .read-rgb .ensures) (c .rgb-token .ensures))
+returns-15 c =
+    after-id _ _ (c .before .before .before .before .before .before .before .read-id .ensures) (c .before .before .before .before .before .r .given .1) (ap after (c .before .before .before .match2 .keys14))
+    (colour-at _ _ (rw (part-to-end (c .before .before .before .before .before .before .before .before .before .args .bytes .now) 0) at (c .before .read-rgb .ensures)) (c .rgb-token .ensures))
 
 returns-16 : tie.Need-returns-16
 unfolding tokenOf
@@ -247,10 +292,19 @@ read-token-spec =
     i32-token-requires
     read-f32-requires
     f32-token-requires
+    sub-read-u64
+    part-read-u64-start
+    part-read-u64-end
     read-u64-requires
     u64-token-requires
+    sub-read-i64
+    part-read-i64-start
+    part-read-i64-end
     read-i64-requires
     i64-token-requires
+    sub-read-f64
+    part-read-f64-start
+    part-read-f64-end
     read-f64-requires
     f64-token-requires
     read-bool-requires
@@ -259,6 +313,9 @@ read-token-spec =
     quoted-token-requires
     read-string-requires-2
     unquoted-token-requires
+    sub-read-rgb
+    part-read-rgb-start
+    part-read-rgb-end
     read-rgb-requires
     rgb-token-requires
     read-lookup-u8-requires
