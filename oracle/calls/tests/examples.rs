@@ -1,6 +1,5 @@
 //! The protocol page's examples.
 
-use port::PENDING;
 use std::io::Write;
 use std::process::{Command, Stdio};
 
@@ -12,20 +11,12 @@ fn examples_are_answered() {
     let lines: Vec<&str> = EXAMPLES.lines().collect();
     let (pairs, odd) = lines.as_chunks::<2>();
     assert!(odd.is_empty());
-    let due: Vec<&[&str; 2]> = pairs.iter().filter(|[request, _]| !pending(request)).collect();
-    let requests: String = due.iter().map(|[request, _]| format!("{request}\n")).collect();
+    let requests: String = pairs.iter().map(|[request, _]| format!("{request}\n")).collect();
     let answers = ask(&requests);
-    let wanted: Vec<String> = due.iter().map(|[request, answer]| format!("{request} => {answer}")).collect();
+    let wanted: Vec<String> = pairs.iter().map(|[request, answer]| format!("{request} => {answer}")).collect();
     let got: Vec<String> =
-        due.iter().zip(answers.lines()).map(|([request, _], line)| format!("{request} => {line}")).collect();
+        pairs.iter().zip(answers.lines()).map(|([request, _], line)| format!("{request} => {line}")).collect();
     assert_eq!(got, wanted);
-}
-
-#[test]
-fn pending_examples_are_understood() {
-    let requests: Vec<&str> = EXAMPLES.lines().step_by(2).filter(|request| pending(request)).collect();
-    let answers = ask(&requests.iter().map(|request| format!("{request}\n")).collect::<String>());
-    assert_eq!(answers, "pending\n".repeat(requests.len()));
 }
 
 #[test]
@@ -46,16 +37,17 @@ fn what_is_no_request() {
         "lex - 0 position 1",
         "source slice - ensure 1",
         "source slice - : ensure",
+        "source slice - : refill 1",
+        "source slice - : window",
+        "source slice - : refill ;",
+        "source stream 1 - x : refill",
+        "source state - 0 0 0 - 0 - : refill",
         "fast 00 -",
         "write 9 rgb 1 2",
         "write 9 u32 4294967296",
     ];
     let answers = ask(&lines.map(|line| format!("{line}\n")).concat());
     assert_eq!(answers, "bad request\n".repeat(lines.len()));
-}
-
-fn pending(request: &str) -> bool {
-    PENDING.iter().any(|word| request.split(' ').next() == Some(word))
 }
 
 fn ask(requests: &str) -> String {

@@ -2,13 +2,19 @@
 
 use crate::listed::Listed;
 use protocol::{Answer, WORDS};
+use std::iter::once;
 
 /// What both sides answer to one question must be equal.
 pub trait Case: Sized {
     type Seen: PartialEq;
 
-    /// Under what it is counted.
     fn name(&self) -> &'static str;
+
+    /// Under what it is counted: once, or for each of its calls.
+    #[inline]
+    fn calls(&self) -> impl Iterator<Item = &'static str> {
+        once(self.name())
+    }
 
     /// The original's answer; the paper's where the difference is listed.
     fn expected(&self) -> Self::Seen;
@@ -43,7 +49,7 @@ pub trait Ask {
 }
 
 /// What stands in the lent list before a call.
-const LENT: u64 = 0x5ea1_ed00_5ea1_ed00;
+pub const LENT: u64 = 0x5ea1_ed00_5ea1_ed00;
 /// More than the port may fill.
 pub const ROOM: usize = WORDS + 2;
 
@@ -81,12 +87,17 @@ impl Seen {
         Answer { code: self.code, words }
     }
 
-    /// Code and words; a word that was left as lent is a dot.
+    /// Code and words.
     pub fn raw(&self) -> String {
-        let word = |word: &u64| if *word == LENT { ".".to_string() } else { word.to_string() };
-        let words: Vec<String> = self.words.iter().map(word).collect();
-        format!("{} [{}]", self.code, words.join(" "))
+        format!("{} {}", self.code, raw_words(&self.words))
     }
+}
+
+/// A word that was left as lent is a dot.
+pub fn raw_words(words: &[u64]) -> String {
+    let word = |word: &u64| if *word == LENT { ".".to_string() } else { word.to_string() };
+    let words: Vec<String> = words.iter().map(word).collect();
+    format!("[{}]", words.join(" "))
 }
 
 impl From<Answer> for Seen {

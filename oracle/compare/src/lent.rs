@@ -17,7 +17,7 @@ pub fn output(room: usize) -> Vec<u8> {
 }
 
 /// What lies after the lent bytes and is not handed over.
-const BEYOND: [u8; 4] = [0x5e, 0xa1, 0xed, 0x00];
+pub const BEYOND: [u8; 4] = [0x5e, 0xa1, 0xed, 0x00];
 
 /// A code and the lent list, and the lent bytes after the call with what lies beyond them.
 #[derive(Debug, PartialEq, Eq)]

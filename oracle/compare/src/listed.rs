@@ -1,8 +1,8 @@
 //! Where the port differs from the original on purpose.
 
 use crate::run::Run;
-use crate::subjects::{Fast, Lex, Text, Write};
-use protocol::{Call, Token};
+use crate::subjects::{Fast, Lex, Sequence, Text, Write};
+use protocol::{Call, Numbers, Op, Source, Token};
 
 #[derive(Clone, Copy, Debug, PartialEq, Eq)]
 pub enum Listed {
@@ -14,10 +14,11 @@ pub enum Listed {
     ReservedId,
     NoRoom,
     ShortWindow,
+    BadSourceState,
 }
 
 impl Listed {
-    pub const ALL: [Listed; 8] = [
+    pub const ALL: [Listed; 9] = [
         Listed::CursorPastInput,
         Listed::TextPastInput,
         Listed::BadTextPlace,
@@ -26,6 +27,7 @@ impl Listed {
         Listed::ReservedId,
         Listed::NoRoom,
         Listed::ShortWindow,
+        Listed::BadSourceState,
     ];
 
     /// As docs/DIFFERENCES.md has it.
@@ -39,6 +41,7 @@ impl Listed {
             Listed::ReservedId => "reserved-id",
             Listed::NoRoom => "no-room",
             Listed::ShortWindow => "short-window",
+            Listed::BadSourceState => "bad-source-state",
         }
     }
 
@@ -52,6 +55,7 @@ impl Listed {
             Listed::ReservedId => "the original writes the id, which reads as another token",
             Listed::NoRoom => "the original writes what fits, and fails",
             Listed::ShortWindow => "the original's caller does not take the step; if taken, it may panic",
+            Listed::BadSourceState => "the original's source keeps its own numbers, and they fit",
         }
     }
 }
@@ -72,6 +76,18 @@ pub fn show(run: &mut Run) {
                 run.show(&Fast::new(&[0; 8], &[]));
                 run.show(&Fast::new(&[0; 8], &[1, 0]));
             }
+            Listed::BadSourceState => bad_source_states().iter().for_each(|case| run.show(case)),
         }
     }
+}
+
+/// Each number that does not fit, in the order in which they are looked at.
+fn bad_source_states() -> [Sequence; 5] {
+    let states =
+        [[1, 0, 0, 0, 0, 1], [0, 1, 0, 0, 0, 1], [0, 0, 2, 0, 0, 1], [0, 0, 0, 1, 0, 1], [0, 0, 0, 0, u64::MAX, 1]];
+    states.map(|words| {
+        let given = Some(Numbers::of_words(words));
+        let source = Source::stream(Vec::new(), vec![7], Vec::new());
+        Sequence::new(Source { given, ..source }, vec![Op::WindowLen])
+    })
 }

@@ -53,4 +53,5 @@ fn calls(run: &mut Run, rng: &mut Rng, arguments: &Arguments) {
     stages::writing(run, rng);
     stages::fast(run, rng);
     stages::whole(run, rng, arguments.cases);
+    stages::sources(run, rng, arguments.cases);
 }

@@ -23,9 +23,13 @@ impl Run {
     }
 
     pub fn check<C: Case>(&mut self, case: &C) {
-        self.counts.add(case.name());
+        let mut calls = 0;
+        for name in case.calls() {
+            self.counts.add(name);
+            calls += 1;
+        }
         if let Some(listed) = case.listed() {
-            self.listed[listed as usize] += 1;
+            self.listed[listed as usize] += calls;
         }
         if case.differs() {
             self.differ(case);

@@ -21,14 +21,19 @@ pub fn shrink<C: Case>(case: &C) -> Option<C> {
     }
 }
 
-/// Parts to leave out of `len` bytes: all, halves, and so on down to single ones.
+/// Parts to leave out of a list: all, halves, and so on down to single ones.
 pub fn cuts(len: usize) -> impl Iterator<Item = Range<usize>> {
     let sizes = std::iter::successors(Some(len), |size| Some(size / 2)).take_while(|size| *size > 0);
     sizes.flat_map(move |size| (0..len).step_by(size).map(move |start| start..len.min(start + size)))
 }
 
-pub fn without(bytes: &[u8], cut: &Range<usize>) -> Vec<u8> {
-    [&bytes[..cut.start], &bytes[cut.end..]].concat()
+pub fn without<T: Clone>(list: &[T], cut: &Range<usize>) -> Vec<T> {
+    [&list[..cut.start], &list[cut.end..]].concat()
+}
+
+/// A cut before a place takes the place along.
+pub fn moved(at: usize, cut: &Range<usize>) -> usize {
+    at - cut.end.min(at).saturating_sub(cut.start)
 }
 
 /// The bytes with more of them zero.

@@ -14,7 +14,7 @@ pub fn is_id(id: u16) -> bool {
     LexemeId::new(id).is_id()
 }
 
-/// Nothing above LARGEST_COUNT.
+/// Nothing where the count is not at hand as a constant.
 pub fn split(bytes: &[u8], count: usize) -> Option<Answer> {
     let found = counted!(count, N => get_split::<N>(bytes).map(|(head, rest)| (head.len(), rest)))?;
     Some(match found {

@@ -16,7 +16,7 @@ pub use calls::{count_tokens, is_id, kind, lex, skip_container, split, text};
 pub use counted::LARGEST_COUNT;
 pub use requests::answer_request;
 pub use scalar::Scalar;
-pub use source::window::Window;
+pub use source::window::{Window, has_op};
 pub use write::{normalise, reads_back, spelling, tokens, write};
 
 /// Where the files are from.

@@ -31,9 +31,7 @@ fn stepped(held: [u8; 8], window: &[u8]) -> String {
 }
 
 fn source_lines(source: &Source, ops: &[Op]) -> Option<String> {
-    if let Source::Stream(stream) = source
-        && !stream.stands()
-    {
+    if source.bad_place().is_some() {
         return None;
     }
     let mut window = Window::new(source);

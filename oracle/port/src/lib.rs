@@ -7,13 +7,15 @@ mod fast;
 mod lexer;
 mod requests;
 mod saves;
+mod source;
 mod split;
 mod writer;
 
 pub use fast::next_token_fast;
 pub use lexer::{count_tokens, is_id, kind, lex, text};
-pub use requests::{PENDING, answer_request};
+pub use requests::answer_request;
 pub use saves::{list, normalise};
+pub use source::{Lists, Window, new_source, source};
 pub use split::split;
 pub use writer::write;
 

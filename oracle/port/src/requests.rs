@@ -1,10 +1,10 @@
 //! The port's answers to requests.
 
-use crate::{answer, is_id, kind, lex, list, next_token_fast, normalise, split, write};
-use protocol::{Answer, Request, Token, code, dump_line, fast_line, kind_line, lex_line, output_line, split_line};
-
-/// The requests whose C functions do not exist yet, by their first word.
-pub const PENDING: [&str; 1] = ["source"];
+use crate::{Window, answer, is_id, kind, lex, list, next_token_fast, normalise, split, write};
+use protocol::{
+    Answer, Got, Op, Request, Source, Token, code, dump_line, fast_line, kind_line, lex_line, output_line, source_line,
+    split_line,
+};
 
 /// No answer fills more, and no output is made longer.
 const LARGEST: usize = 1 << 30;
@@ -25,7 +25,7 @@ pub fn answer_request(request: &Request) -> String {
             let answer = answer(|words| next_token_fast(window, &mut held, words));
             fast_line(&answer, &held)
         }
-        Request::Source { .. } => "pending".to_string(),
+        Request::Source { source, ops } => source_lines(source, ops),
     }
 }
 
@@ -49,4 +49,17 @@ fn dumped(bytes: &[u8]) -> String {
     }
     let (answer, out) = lending(asked.words[1] as usize, |out, words| list(bytes, out, words));
     dump_line(&answer, &out)
+}
+
+/// Where the state is refused, that is the whole answer.
+fn source_lines(source: &Source, ops: &[Op]) -> String {
+    let mut window = Window::new(source);
+    let mut lines = Vec::new();
+    for op in ops {
+        match window.call(*op) {
+            Got::Refused { code: code::BAD_PLACE, position } => return format!("badplace {position}"),
+            got => lines.push(source_line(&got, &window.state())),
+        }
+    }
+    lines.join(" ; ")
 }

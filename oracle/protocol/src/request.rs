@@ -1,7 +1,10 @@
 //! The request lines.
 
-use crate::{Call, Colour, Op, Source, Stream, Token, unhex};
+use crate::{Call, Colour, Numbers, Op, Source, Token, unhex};
 use std::str::FromStr;
+
+/// A longer one is not understood.
+const LONGEST_BUFFER: usize = 1 << 30;
 
 #[derive(Clone, Debug, PartialEq, Eq)]
 pub enum Request {
@@ -22,7 +25,7 @@ impl Request {
             let mut words = Words::of(head);
             words.expect("source")?;
             let source = source(&mut words)?;
-            let ops = ops.split(" ; ").map(whole_op).collect::<Option<_>>()?;
+            let ops = ops.split(" ; ").map(op).collect::<Option<_>>()?;
             return words.end(Request::Source { source, ops });
         }
         let mut words = Words::of(line);
@@ -130,53 +133,35 @@ fn colour(words: &mut Words) -> Option<Colour> {
 
 fn source(words: &mut Words) -> Option<Source> {
     Some(match words.word()? {
-        "slice" => Source::Slice(words.bytes()?),
+        "slice" => Source::slice(words.bytes()?),
         "stream" => {
-            let buffer = vec![0; words.number()?];
-            Source::Stream(Stream::new(buffer, words.bytes()?, schedule(words.word()?)?))
+            let buffer = words.number().filter(|length| *length <= LONGEST_BUFFER)?;
+            Source::stream(vec![0; buffer], words.bytes()?, schedule(words.word()?)?)
         }
-        "state" => Source::Stream(Stream {
-            buffer: words.bytes()?,
-            start: words.number()?,
-            end: words.number()?,
-            position: words.number()?,
-            supply: words.bytes()?,
-            supply_at: words.number()?,
-            schedule: schedule(words.word()?)?,
-            schedule_at: words.number()?,
-        }),
+        "state" => state(words)?,
         _ => return None,
     })
+}
+
+fn state(words: &mut Words) -> Option<Source> {
+    let buffer = words.bytes()?;
+    let (start, end, position) = (words.number()?, words.number()?, words.number()?);
+    let (supply, supply_at) = (words.bytes()?, words.number()?);
+    let (schedule, schedule_at) = (schedule(words.word()?)?, words.number()?);
+    let given = Some(Numbers { start, end, supply: supply_at, schedule: schedule_at, position });
+    Some(Source { given, ..Source::stream(buffer, supply, schedule) })
 }
 
 fn schedule(word: &str) -> Option<Vec<u32>> {
     if word == "-" {
         return Some(Vec::new());
     }
-    word.split(',').map(|entry| if entry == "f" { Some(Stream::FAILS) } else { number(entry) }).collect()
+    word.split(',').map(|entry| if entry == "f" { Some(Source::FAILS) } else { number(entry) }).collect()
 }
 
-fn whole_op(text: &str) -> Option<Op> {
+fn op(text: &str) -> Option<Op> {
     let mut words = Words::of(text);
-    let op = op(&mut words)?;
+    let word = words.word()?;
+    let op = Op::parse(word, || words.number())?;
     words.end(op)
-}
-
-fn op(words: &mut Words) -> Option<Op> {
-    Some(match words.word()? {
-        "ensure" => Op::Ensure(words.number()?),
-        "refill" => Op::Refill,
-        "peek" => Op::Peek(words.number()?),
-        "take" => Op::Take(words.number()?),
-        "try_take" => Op::TryTake(words.number()?),
-        "take_bytes" => Op::TakeBytes(words.number()?),
-        "try_take_bytes" => Op::TryTakeBytes(words.number()?),
-        "advance" => Op::Advance(words.number()?),
-        "window_len" => Op::WindowLen,
-        "read_bstr" => Op::ReadBstr,
-        "read_lexeme_id" => Op::ReadLexemeId,
-        "peek_lexeme_id" => Op::PeekLexemeId,
-        "read_rgb" => Op::ReadRgb,
-        _ => return None,
-    })
 }

@@ -112,7 +112,7 @@ fn token(bytes: &[u8], words: &[u64]) -> String {
 }
 
 /// Empty where the words name no part of the bytes.
-fn part(bytes: &[u8], start: u64, length: u64) -> &[u8] {
+pub(crate) fn part(bytes: &[u8], start: u64, length: u64) -> &[u8] {
     let rest = bytes.get(start as usize..).unwrap_or_default();
     rest.get(..length as usize).unwrap_or_default()
 }

@@ -32,6 +32,26 @@ pub fn bad_colour(rng: &mut Rng) -> Vec<u8> {
     out
 }
 
+/// A colour's id and a colour, with and without alpha: cut at every place, and whole with each of its ids changed.
+pub fn cut_and_changed_colours() -> Vec<Vec<u8>> {
+    let mut all = Vec::new();
+    for channels in [3, 4] {
+        let channel = |at: u8| [&U32.to_le_bytes()[..], &[at, at + 1, at + 2, 0x80 + at]].concat();
+        let channels: Vec<u8> = (0..channels).flat_map(|at| channel(16 * at)).collect();
+        let ends = [&RGB.to_le_bytes()[..], &OPEN.to_le_bytes()].concat();
+        let whole = [ends, channels, CLOSE.to_le_bytes().to_vec()].concat();
+        all.extend((0..=whole.len()).map(|len| whole[..len].to_vec()));
+        for at in [2].into_iter().chain((4..whole.len()).step_by(6)) {
+            for id in [0, OPEN, CLOSE, U32, U32 + 0x0100, 0x000c, RGB] {
+                let mut changed = [&whole[..], &[4, 0, 4, 0, 4, 0]].concat();
+                changed[at..at + 2].copy_from_slice(&id.to_le_bytes());
+                all.push(changed);
+            }
+        }
+    }
+    all
+}
+
 pub fn random_bytes(rng: &mut Rng, longest: usize) -> Vec<u8> {
     let mut out = Vec::new();
     let length = rng.below(longest + 1);

@@ -6,7 +6,7 @@ mod ids;
 mod narrow;
 mod rng;
 
-pub use damage::{bad_colour, flip, random_bytes, random_ids};
+pub use damage::{bad_colour, cut_and_changed_colours, flip, random_bytes, random_ids};
 pub use flavour::{Flavour, Plan, save, token};
 pub use ids::{Payload, RESERVED, payload};
 pub use narrow::narrow;

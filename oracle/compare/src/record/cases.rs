@@ -3,13 +3,14 @@
 use super::sample::{LONGEST, Sample};
 use crate::stages::{SPECIMENS, plain_calls};
 use crate::subjects::{Count, Kind, Lex, Split, Text};
-use original::LARGEST_COUNT;
 use protocol::{Call, Request, code};
-use saves::{Flavour, Payload, Plan, RESERVED, Rng, bad_colour, flip, payload, random_bytes, random_ids, save, token};
+use saves::{
+    Flavour, Payload, Plan, RESERVED, Rng, bad_colour, cut_and_changed_colours, flip, payload, random_bytes,
+    random_ids, save, token,
+};
 
 const OPEN: u16 = 0x0003;
 const CLOSE: u16 = 0x0004;
-const U32: u16 = 0x0014;
 const RGB: u16 = 0x0243;
 
 pub fn all(sample: &mut Sample, seed: u64) {
@@ -57,9 +58,9 @@ fn kinds(sample: &mut Sample) {
 }
 
 fn splits(sample: &mut Sample) {
-    for len in [0, 1, 2, 3, 8, 9, LARGEST_COUNT] {
+    for len in [0, 1, 2, 3, 8, 9, 32] {
         let bytes: Vec<u8> = (1..=len as u8).collect();
-        for count in [0, 1, 2, 3, 4, 8, 9, 16, LARGEST_COUNT] {
+        for count in [0, 1, 2, 3, 4, 8, 9, 16, 32] {
             sample.add(&Split { bytes: bytes.clone(), count });
         }
     }
@@ -143,23 +144,10 @@ fn texts(sample: &mut Sample) {
     }
 }
 
-/// With and without alpha: cut at every place, and with each of its ids changed; then some from the seed.
+/// Cut at every place, and with each of its ids changed; then some from the seed.
 fn colours(sample: &mut Sample, rng: &mut Rng) {
-    for channels in [3, 4] {
-        let channel = |at: u8| [&U32.to_le_bytes()[..], &[at, at + 1, at + 2, 0x80 + at]].concat();
-        let channels: Vec<u8> = (0..channels).flat_map(|at| channel(16 * at)).collect();
-        let ends = [&RGB.to_le_bytes()[..], &OPEN.to_le_bytes()].concat();
-        let whole = [ends, channels, CLOSE.to_le_bytes().to_vec()].concat();
-        for len in 0..=whole.len() {
-            colour(sample, &whole[..len]);
-        }
-        for at in [2].into_iter().chain((4..whole.len()).step_by(6)) {
-            for id in [0, OPEN, CLOSE, U32, U32 + 0x0100, 0x000c, RGB] {
-                let mut changed = [&whole[..], &[4, 0, 4, 0, 4, 0]].concat();
-                changed[at..at + 2].copy_from_slice(&id.to_le_bytes());
-                colour(sample, &changed);
-            }
-        }
+    for bytes in cut_and_changed_colours() {
+        colour(sample, &bytes);
     }
     for _ in 0..8 {
         colour(sample, &token(rng, RGB, 0));

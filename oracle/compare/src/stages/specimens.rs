@@ -20,10 +20,6 @@ impl Specimen {
         let (request, answer) = self.line.split_once(" => ").expect("request => answer");
         (Request::parse(request).expect("a request"), answer)
     }
-
-    fn pending(&self) -> bool {
-        port::PENDING.iter().any(|word| self.line.starts_with(word))
-    }
 }
 
 impl Case for Specimen {
@@ -40,10 +36,8 @@ impl Case for Specimen {
     }
 
     fn port(&self) -> [String; 2] {
-        let (request, answer) = self.parts();
-        let original = original_line(&request);
-        let port = if self.pending() { answer.to_string() } else { port::answer_request(&request) };
-        [original, port]
+        let (request, _) = self.parts();
+        [original_line(&request), port::answer_request(&request)]
     }
 
     fn smaller(&self) -> impl Iterator<Item = Self> {

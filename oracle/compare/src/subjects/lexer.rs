@@ -3,7 +3,7 @@
 use crate::case::{Ask, Case, Seen};
 use crate::listed::Listed;
 use crate::record::{Entry, Recorded};
-use crate::shrink::{cuts, less, without, zeroed};
+use crate::shrink::{cuts, less, moved, without, zeroed};
 use protocol::{Answer, Call, code, hex, lex_line};
 use std::borrow::Cow;
 
@@ -26,12 +26,8 @@ impl<'a> Lex<'a> {
         Lex { bytes: self.bytes.clone(), at: self.at, call }
     }
 
-    /// A cut before the cursor takes the cursor along.
     fn shorter(&self) -> impl Iterator<Item = Lex<'a>> {
-        cuts(self.bytes.len()).map(|cut| {
-            let before = cut.end.min(self.at).saturating_sub(cut.start);
-            self.with(without(&self.bytes, &cut), self.at - before)
-        })
+        cuts(self.bytes.len()).map(|cut| self.with(without(&self.bytes, &cut), moved(self.at, &cut)))
     }
 
     /// An Open at the cursor made a Close, so that a skip ends there.

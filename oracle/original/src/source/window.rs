@@ -3,15 +3,25 @@
 use super::{Backing, BinarySourceExt, ParserError, ParserSource};
 use crate::counted::counted;
 use crate::shims::Error;
-use protocol::{Got, Op, Source, State, Stream, code};
+use protocol::{Colour, Got, Numbers, Op, Source, State, code};
 use std::cell::Cell;
 use std::io::{self, Read};
-use std::marker::PhantomData;
 use std::rc::Rc;
+
+/// No buffer is so long: a larger constant is asked for as this one.
+const LONGEST_ARRAY: usize = 1 << 60;
+
+/// Whether the original has the operation: of those that take a constant, not every count is at hand.
+pub fn has_op(op: Op) -> bool {
+    match op {
+        Op::Peek(count) | Op::Take(count) | Op::TryTake(count) => counted!(count.min(LONGEST_ARRAY), N => N).is_some(),
+        _ => true,
+    }
+}
 
 /// One read uses one entry of the schedule.
 struct Scheduled<'a> {
-    stream: &'a Stream,
+    source: &'a Source,
     cursors: Rc<Cursors>,
 }
 
@@ -22,14 +32,14 @@ struct Cursors {
 
 impl Read for Scheduled<'_> {
     fn read(&mut self, space: &mut [u8]) -> io::Result<usize> {
-        let entry = self.stream.schedule.get(self.cursors.schedule.get()).copied();
+        let entry = self.source.schedule.get(self.cursors.schedule.get()).copied();
         if entry.is_some() {
             self.cursors.schedule.update(|at| at + 1);
         }
-        if entry == Some(Stream::FAILS) {
+        if entry == Some(Source::FAILS) {
             return Err(io::Error::other("a failing read"));
         }
-        let left = &self.stream.supply[self.cursors.supply.get()..];
+        let left = &self.source.supply[self.cursors.supply.get()..];
         let most = entry.map_or(usize::MAX, |entry| entry as usize);
         let count = most.min(space.len()).min(left.len());
         space[..count].copy_from_slice(&left[..count]);
@@ -41,39 +51,31 @@ impl Read for Scheduled<'_> {
 /// The original's source, and where its supply and schedule stand.
 pub struct Window<'a> {
     source: ParserSource<'a>,
-    cursors: Option<Rc<Cursors>>,
+    cursors: Rc<Cursors>,
 }
 
 impl<'a> Window<'a> {
-    /// A stream must stand (`Stream::stands`).
-    pub fn new(source: &'a Source) -> Window<'a> {
-        match source {
-            Source::Slice(bytes) => Window { source: ParserSource::from_slice(bytes), cursors: None },
-            Source::Stream(stream) => Window::stream(stream),
+    /// The state must fit (`Source::bad_place`).
+    pub fn new(given: &'a Source) -> Window<'a> {
+        assert_eq!(given.bad_place(), None);
+        let Numbers { start, end, supply, schedule, position } = given.numbers();
+        let cursors = Rc::new(Cursors { supply: Cell::new(supply), schedule: Cell::new(schedule) });
+        let mut source = if given.streaming {
+            let read = Scheduled { source: given, cursors: cursors.clone() };
+            ParserSource::from_reader_with_buf(read, given.buffer.clone())
+        } else {
+            ParserSource::from_slice(&given.supply)
+        };
+        if given.given.is_some() {
+            // SAFETY: start and end lie within the bytes that hold the window.
+            source.ptr = unsafe { source.base_ptr.add(start) };
+            source.end = unsafe { source.base_ptr.add(end) };
+            source.total_bytes_parsed = position.wrapping_sub(start);
         }
+        Window { source, cursors }
     }
 
-    fn stream(stream: &'a Stream) -> Window<'a> {
-        let cursors = Rc::new(Cursors { supply: Cell::new(stream.supply_at), schedule: Cell::new(stream.schedule_at) });
-        let supply = Scheduled { stream, cursors: cursors.clone() };
-        let buffer = stream.buffer.clone();
-        let base = buffer.as_ptr();
-        assert!(stream.stands());
-        Window {
-            source: ParserSource {
-                // SAFETY: start and end lie within the buffer, whose memory moves with the Vec's owner.
-                ptr: unsafe { base.add(stream.start) },
-                end: unsafe { base.add(stream.end) },
-                base_ptr: base,
-                total_bytes_parsed: stream.position.wrapping_sub(stream.start),
-                streaming: Some(Box::new(Backing::Stream { buffer, source: Box::new(supply) })),
-                _marker: PhantomData,
-            },
-            cursors: Some(cursors),
-        }
-    }
-
-    /// Nothing where the count is above LARGEST_COUNT and the original takes it as a constant.
+    /// Nothing where the original has no such operation (`has_op`).
     pub fn call(&mut self, op: Op) -> Option<Got> {
         let got = self.got(op)?;
         let position = self.source.position();
@@ -82,45 +84,58 @@ impl<'a> Window<'a> {
 
     fn got(&mut self, op: Op) -> Option<Result<Got, Error>> {
         let source = &mut self.source;
+        let base = source.base_ptr as usize;
+        let part = |found: &[u8]| Got::Part(found.as_ptr() as usize - base, found.to_vec());
         let number = |id: super::LexemeId| Got::Number(id.0.into());
+        let constant = |count: usize| count.min(LONGEST_ARRAY);
         Some(match op {
             Op::Ensure(count) => plain(source.ensure_bytes(count), |()| Got::Done),
             Op::Refill => plain(source.refill(), Got::Number),
-            Op::Peek(count) => counted!(count, N => optional(source.peek::<N>(), |found| bytes(found)))?,
-            Op::Take(count) => counted!(count, N => plain(source.take::<N>(), |found| bytes(found)))?,
-            Op::TryTake(count) => counted!(count, N => optional(source.try_take::<N>(), |found| bytes(found)))?,
-            Op::TakeBytes(count) => plain(source.take_bytes(count), bytes),
-            Op::TryTakeBytes(count) => optional(source.try_take_bytes(count), bytes),
+            Op::Peek(count) => counted!(constant(count), N => optional(source.peek::<N>(), |found| part(found)))?,
+            Op::Take(count) => counted!(constant(count), N => plain(source.take::<N>(), |found| part(found)))?,
+            Op::TryTake(count) => {
+                counted!(constant(count), N => optional(source.try_take::<N>(), |found| part(found)))?
+            }
+            Op::TakeBytes(count) => plain(source.take_bytes(count), part),
+            Op::TryTakeBytes(count) => optional(source.try_take_bytes(count), part),
             Op::Advance(count) => Ok(Got::Bool(source.advance(count))),
             Op::WindowLen => Ok(Got::Number(source.window_len())),
-            Op::ReadBstr => plain(source.read_bstr(), bytes),
+            Op::Window => Ok(part(source.window())),
+            Op::ReadBstr => plain(source.read_bstr(), part),
             Op::ReadLexemeId => plain(source.read_lexeme_id(), number),
             Op::PeekLexemeId => optional(source.peek_lexeme_id(), number),
-            Op::ReadRgb => source.read_rgb().map(|colour| Got::Colour(colour.into())),
+            Op::ReadRgb => source.read_rgb().map(|colour| Got::Colour(Colour::from(colour).words())),
         })
     }
 
-    pub fn state(&self) -> State {
+    pub fn numbers(&self) -> Numbers {
         let source = &self.source;
-        let buffer = match source.streaming.as_deref() {
-            Some(Backing::Stream { buffer, .. }) => Some(buffer.clone()),
-            _ => None,
-        };
         let place = |pointer: *const u8| pointer as usize - source.base_ptr as usize;
-        State {
-            position: source.position(),
+        Numbers {
             start: place(source.ptr),
             end: place(source.end),
-            window: source.window().to_vec(),
-            stream: buffer
-                .zip(self.cursors.as_ref())
-                .map(|(buffer, cursors)| (buffer, cursors.supply.get(), cursors.schedule.get())),
+            supply: self.cursors.supply.get(),
+            schedule: self.cursors.schedule.get(),
+            position: source.position(),
         }
     }
-}
 
-fn bytes(found: &[u8]) -> Got {
-    Got::Bytes(found.to_vec())
+    pub fn window(&self) -> &[u8] {
+        self.source.window()
+    }
+
+    /// A stream's.
+    pub fn buffer(&self) -> Option<&[u8]> {
+        match self.source.streaming.as_deref() {
+            Some(Backing::Stream { buffer, .. }) => Some(buffer),
+            _ => None,
+        }
+    }
+
+    pub fn state(&self) -> State {
+        let buffer = self.buffer().map(<[u8]>::to_vec);
+        State { numbers: self.numbers(), window: self.window().to_vec(), buffer }
+    }
 }
 
 fn plain<T>(found: Result<T, ParserError>, got: impl Fn(T) -> Got) -> Result<Got, Error> {
