@@ -3,6 +3,7 @@ use crate::line::NUMBERS;
 use crate::outputs;
 use crate::outputs::LENT;
 use crate::outputs::LONGEST_OUTPUT;
+use crate::sources;
 use capi::counting;
 use capi::kinds;
 use capi::lexing;
@@ -24,8 +25,10 @@ pub(crate) fn holds(numbers: &[u64; NUMBERS], bytes: &[u8], output: &[u8]) -> bo
     let mut out = [LENT; LONGEST_OUTPUT];
     let asked = if call < 29 {
         ask(call, bytes, at, arg, &mut answer)
-    } else {
+    } else if call < 33 {
         outputs::ask(call, bytes, at, arg, &mut out, &mut answer)
+    } else {
+        sources::ask(call, bytes, at, arg, &mut out, &mut answer)
     };
     if same_code(asked, numbers[3]) {
         if same_words(numbers, &answer) {
@@ -42,9 +45,12 @@ fn same_code(asked: Asked, code: u64) -> bool {
     }
 }
 
-// What the words are before the call, so that one that is left alone shows. The first two calls are lent none.
+// What the words are before the call, so that one that is left alone shows. The calls on an id and those that make a state are lent none.
 fn lent(call: u64) -> u64 {
-    if call > 2 { u64::MAX } else { 0 }
+    match call {
+        3..=46 => u64::MAX,
+        _ => 0,
+    }
 }
 
 fn same_words(numbers: &[u64; NUMBERS], answer: &[u64; 8]) -> bool {

@@ -3,6 +3,7 @@
 mod calls;
 mod line;
 mod outputs;
+mod sources;
 mod tally;
 
 use crate::line::LONGEST;

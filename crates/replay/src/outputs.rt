@@ -53,7 +53,7 @@ fn write(bytes: &[u8], kind: usize, out: &mut [u8], answer: &mut [u64]) -> Asked
     Asked::Code(writing::stivlaheim_write(&bytes[40..], kind as u32, &words, out, answer))
 }
 
-fn word(bytes: &[u8], at: usize) -> u64 {
+pub(crate) fn word(bytes: &[u8], at: usize) -> u64 {
     let mut answer = [0u64; 8];
     lexing::stivlaheim_read_u64(bytes, at, &mut answer);
     answer[1]
@@ -69,7 +69,7 @@ fn next_token_fast(bytes: &[u8], held: &mut [u8], answer: &mut [u64]) -> Asked {
     Asked::Code(stepping::stivlaheim_next_token_fast(&bytes[n..], held, answer))
 }
 
-fn copy(from: &[u8], to: &mut [u8]) {
+pub(crate) fn copy(from: &[u8], to: &mut [u8]) {
     let mut i: usize = 0;
     while i < to.len() {
         to[i] = or_lent(from, i);

@@ -12,6 +12,7 @@ pub struct Tally {
     pub skips: u64,
     pub writes: u64,
     pub steps: u64,
+    pub sources: u64,
     pub unreadable: u64,
     pub answers: u64,
     pub different: u64,
@@ -29,6 +30,7 @@ impl Tally {
             skips: 0,
             writes: 0,
             steps: 0,
+            sources: 0,
             unreadable: 0,
             answers: 0,
             different: 0,
@@ -65,6 +67,7 @@ impl Tally {
             27..=28 => t.skips = more(t.skips),
             29..=31 => t.writes = more(t.writes),
             32 => t.steps = more(t.steps),
+            33..=48 => t.sources = more(t.sources),
             _ => t.unreadable = more(t.unreadable),
         }
         t
@@ -79,6 +82,7 @@ impl Tally {
         print(b", skips ", self.skips);
         print(b", writes ", self.writes);
         print(b", steps ", self.steps);
+        print(b", sources ", self.sources);
         print(b", unreadable ", self.unreadable);
         print(b"\n", self.answers);
         print(b" answers replayed, ", self.different);

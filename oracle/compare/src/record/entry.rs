@@ -5,7 +5,7 @@ use protocol::{Answer, hex};
 use std::fmt::{Display, Formatter, Result};
 
 /// The calls by their numbers, from 1. The replay has the same table, so that a new call goes to the end.
-pub const CALLS: [&str; 32] = [
+pub const CALLS: [&str; 48] = [
     "into_kind",
     "is_id",
     "get_split",
@@ -38,6 +38,22 @@ pub const CALLS: [&str; 32] = [
     "normalise",
     "list",
     "next_token_fast",
+    "source_ensure_bytes",
+    "source_refill",
+    "source_peek",
+    "source_take",
+    "source_try_take",
+    "source_take_bytes",
+    "source_try_take_bytes",
+    "source_advance",
+    "source_window_len",
+    "source_window",
+    "source_read_bstr",
+    "source_read_lexeme_id",
+    "source_peek_lexeme_id",
+    "source_read_rgb",
+    "source_from_slice",
+    "source_from_reader",
 ];
 
 /// A question with the answer that is expected, without the end of its line.

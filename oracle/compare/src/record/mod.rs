@@ -5,6 +5,7 @@ mod entry;
 mod outputs;
 mod runs;
 mod sample;
+mod sources;
 
 pub use entry::{Entry, Recorded};
 
@@ -18,6 +19,7 @@ pub fn record(file: &Path, seed: u64) -> ExitCode {
     let mut sample = Sample::default();
     cases::all(&mut sample, seed);
     outputs::all(&mut sample, seed);
+    sources::all(&mut sample, seed);
     sample.print_counts();
     write(file, header(seed) + &sample.lines())
 }
@@ -48,13 +50,16 @@ fn header(seed: u64) -> String {
 # The original answered; the port was not asked. Where it cannot be asked, the answer is the paper's: it has no call 4, no place past its
 # input (code 7), no refusal of a token that would not read back (3) or for want of room (4), no words that are no token (101), and no
 # step over less than 16 bytes (call 32). Calls 30 and 31 are made from its tokens, in its own spelling and in the paper's words.
+# It has no state whose numbers do not fit (7) or whose sixth word is over 1 (101): of the calls from 33 on, these answers are the paper's.
 # CALL AT ARG CODE W0 W1 W2 W3 W4 W5 W6 W7 INPUT, and for the calls from 29 on INPUT/OUTPUT
 # AT: the cursor, a text's start, or how many bytes are lent. ARG: an id, a count, a text's length, or a kind. Either is 0 where the call
 # takes none.
 # CODE: what the C function returns. W0 to W7: the words that it puts into the lent list, 0 where it is lent none, and the largest number
 # where it leaves them (101).
-# INPUT: for call 29 the token's five words, eight bytes each, and the bytes; for call 32 the held bytes and the window.
-# OUTPUT: what the call leaves at the front of the lent bytes; those after it are as they were.
+# INPUT: for call 29 the token's five words, eight bytes each, and the bytes; for call 32 the held bytes and the window; for the calls from
+# 33 on the buffer, the state's six words, in one byte how many entries the schedule has, the entries, four bytes each, and the supply.
+# OUTPUT: what the call leaves at the front of the lent bytes; those after it are as they were. For the calls from 33 on all of the buffer,
+# and the state's words.
 # INPUT and OUTPUT are lower-case hex, - for no bytes. All else is decimal.
 # Calls: {calls}
 "

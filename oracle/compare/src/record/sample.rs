@@ -2,7 +2,7 @@
 
 use super::entry::{CALLS, Entry, Recorded};
 use protocol::hex;
-use std::collections::BTreeSet;
+use std::collections::{BTreeMap, BTreeSet};
 
 /// The longest input that is recorded.
 pub const LONGEST: usize = 256;
@@ -13,7 +13,7 @@ pub const LONGEST_OUTPUT: usize = 1024;
 pub struct Sample {
     lines: Vec<String>,
     seen: BTreeSet<String>,
-    counts: [usize; CALLS.len()],
+    counts: BTreeMap<usize, usize>,
 }
 
 impl Sample {
@@ -29,10 +29,15 @@ impl Sample {
         self.put(entry, format!("{entry}/{}\n", hex(output)));
     }
 
+    /// A comment before the next line.
+    pub fn note(&mut self, words: &str) {
+        self.lines.push(format!("# {words}\n"));
+    }
+
     fn put(&mut self, entry: &Entry, line: String) {
         assert!(entry.bytes.len() <= LONGEST, "an input of {} bytes", entry.bytes.len());
         if self.seen.insert(line.clone()) {
-            self.counts[entry.index()] += 1;
+            *self.counts.entry(entry.index()).or_default() += 1;
             self.lines.push(line);
         }
     }
@@ -42,9 +47,9 @@ impl Sample {
     }
 
     pub fn print_counts(&self) {
-        for (name, count) in CALLS.iter().zip(self.counts) {
-            println!("{count:>6} {name}");
+        for (call, name) in CALLS.iter().enumerate() {
+            println!("{:>6} {name}", self.counts.get(&call).unwrap_or(&0));
         }
-        println!("{:>6} answers of the original", self.lines.len());
+        println!("{:>6} answers of the original", self.counts.values().sum::<usize>());
     }
 }

@@ -6,7 +6,7 @@ mod fast;
 mod generated;
 mod programs;
 mod short_lists;
-mod source;
+pub mod source;
 mod specimens;
 mod sweep;
 mod whole;

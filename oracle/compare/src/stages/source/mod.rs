@@ -7,6 +7,9 @@ mod reading;
 mod sequences;
 mod states;
 
+pub use made::made;
+pub use sequences::ops;
+
 use crate::run::Run;
 use protocol::Op;
 use saves::Rng;
@@ -21,7 +24,7 @@ pub fn sources(run: &mut Run, rng: &mut Rng, cases: usize) {
 }
 
 /// Each operation once, or once with each count.
-fn every_op(counts: &[usize]) -> impl Iterator<Item = Op> {
+pub fn every_op(counts: &[usize]) -> impl Iterator<Item = Op> {
     let counted = Op::COUNTED.iter().flat_map(|op| counts.iter().map(|count| op(*count)));
     counted.chain(Op::PLAIN.iter().copied())
 }

@@ -37,7 +37,7 @@ fn one(run: &mut Run, rng: &mut Rng) {
 }
 
 /// What reads the content is asked for until it is answered or left out; between that anything, or what moves nothing.
-fn ops(rng: &mut Rng, source: &Source, reads: Op) -> Vec<Op> {
+pub fn ops(rng: &mut Rng, source: &Source, reads: Op) -> Vec<Op> {
     let mut window = Window::new(source);
     let between = rng.pick(&[any_op, still_op]);
     let mut due = reads;
