@@ -47,7 +47,7 @@ fn calls(run: &mut Run, rng: &mut Rng, arguments: &Arguments) {
     stages::splits(run);
     stages::short_lists(run);
     stages::all_ids(run);
-    stages::all_short_inputs(run);
+    stages::all_short_inputs(run, arguments.bytes);
     stages::boundary(run, rng);
     stages::generated(run, rng, arguments.cases);
     stages::writing(run, rng);

@@ -4,6 +4,9 @@ use crate::case::Case;
 use crate::listed::Listed;
 use crate::shrink::shrink;
 use std::io::{IsTerminal, Write, stderr};
+use std::num::NonZero;
+use std::sync::Mutex;
+use std::thread::{available_parallelism, scope};
 
 pub struct Run {
     counts: Counts,
@@ -56,6 +59,41 @@ impl Run {
         }
     }
 
+    /// The parts of a stage, on all processors.
+    pub fn shared<P: Send>(
+        &mut self,
+        stage: &str,
+        parts: impl Iterator<Item = P> + Send,
+        work: impl Fn(&mut Run, P) + Sync,
+    ) {
+        let (_, all) = parts.size_hint();
+        let parts = Mutex::new(parts.enumerate());
+        let next = || parts.lock().expect("no other has failed").next();
+        let worker = || {
+            let mut run = Run { progress: false, ..Run::new() };
+            while let Some((done, part)) = next() {
+                self.progress(stage, done, all.unwrap_or(done));
+                work(&mut run, part);
+            }
+            run
+        };
+        let runs = scope(|threads| {
+            let workers: Vec<_> = (0..processors()).map(|_| threads.spawn(worker)).collect();
+            workers.into_iter().map(|worker| worker.join().expect("a worker ends")).collect::<Vec<Run>>()
+        });
+        for run in &runs {
+            self.add(run);
+        }
+    }
+
+    fn add(&mut self, other: &Run) {
+        self.counts.add_all(&other.counts);
+        self.different.add_all(&other.different);
+        for (count, more) in self.listed.iter_mut().zip(other.listed) {
+            *count += more;
+        }
+    }
+
     pub fn progress(&self, stage: &str, done: usize, all: usize) {
         if self.progress {
             eprint!("\r\x1b[K{stage}: {done} of {all}, {} calls", self.counts.total());
@@ -83,11 +121,13 @@ impl Run {
     }
 }
 
+fn processors() -> usize {
+    available_parallelism().map_or(1, NonZero::get)
+}
+
 fn report<C: Case>(case: &C) {
-    println!("DIFFERENT {}", case.name());
-    println!("  {}", case.request());
-    println!("  expected {}", case.show(&case.expected()));
-    println!("  port     {}", case.show(&case.port()));
+    let [expected, port] = [case.expected(), case.port()].map(|seen| case.show(&seen));
+    println!("DIFFERENT {}\n  {}\n  expected {expected}\n  port     {port}", case.name(), case.request());
 }
 
 /// Counts by name, in the order of their coming, the last one found again at once.
@@ -96,13 +136,24 @@ struct Counts(Vec<(&'static str, u64)>, usize);
 
 impl Counts {
     fn add(&mut self, name: &'static str) -> u64 {
+        self.add_many(name, 1)
+    }
+
+    fn add_all(&mut self, other: &Counts) {
+        for (name, count) in &other.0 {
+            self.add_many(name, *count);
+        }
+    }
+
+    #[inline]
+    fn add_many(&mut self, name: &'static str, count: u64) -> u64 {
         if self.0.get(self.1).is_none_or(|(last, _)| !std::ptr::eq(*last, name)) {
             self.1 = self.0.iter().position(|(known, _)| *known == name).unwrap_or(self.0.len());
             if self.1 == self.0.len() {
                 self.0.push((name, 0));
             }
         }
-        self.0[self.1].1 += 1;
+        self.0[self.1].1 += count;
         self.0[self.1].1
     }
 

@@ -1,10 +1,11 @@
-//! All ids, and all inputs of up to three bytes.
+//! All ids, and all short inputs.
 
 use super::sweep::{TOKENS, every_call, tokens_at_every_place};
+use super::whole::one_save;
 use crate::run::Run;
-use crate::subjects::{Count, Kind, Lex, Split};
+use crate::subjects::{Count, Kind, Lex, Sequence, Split};
 use original::LARGEST_COUNT;
-use protocol::Call;
+use protocol::{Call, Op, Source};
 use saves::RESERVED;
 
 pub fn all_kinds(run: &mut Run) {
@@ -22,34 +23,48 @@ pub fn splits(run: &mut Run) {
     }
 }
 
-/// Every call at every place up to two bytes; of three bytes, the calls whose answer is not that of two bytes again.
-pub fn all_short_inputs(run: &mut Run) {
-    every_short(run, &[]);
-    for first in 0..=u8::MAX {
-        run.progress("inputs of up to three bytes", first.into(), 256);
-        every_short(run, &[first]);
-        for second in 0..=u8::MAX {
-            every_short(run, &[first, second]);
-            for third in 0..=u8::MAX {
-                three(run, [first, second, third]);
-            }
+const THREE: usize = 3;
+
+/// All inputs of up to so many bytes; and every call at the start of all inputs of three.
+pub fn all_short_inputs(run: &mut Run, longest: usize) {
+    short_input(run, &[]);
+    run.shared("short inputs, by their first byte", 0..=u8::MAX, |run, first| {
+        each_from(run, &mut vec![first], longest, short_input);
+        if longest < THREE {
+            each_from(run, &mut vec![first], THREE, at_the_start_of_three);
         }
+    });
+}
+
+/// These bytes, and all that begin with them, up to so many.
+fn each_from(run: &mut Run, bytes: &mut Vec<u8>, longest: usize, check: fn(&mut Run, &[u8])) {
+    if bytes.len() > longest {
+        return;
+    }
+    check(run, bytes);
+    for next in 0..=u8::MAX {
+        bytes.push(next);
+        each_from(run, bytes, longest, check);
+        bytes.pop();
     }
 }
 
-fn every_short(run: &mut Run, bytes: &[u8]) {
+fn at_the_start_of_three(run: &mut Run, bytes: &[u8]) {
+    if bytes.len() == THREE {
+        every_call(run, bytes, 0);
+        run.check(&Count::new(bytes));
+    }
+}
+
+/// Every call at every place, and the input as a whole save and as a source.
+fn short_input(run: &mut Run, bytes: &[u8]) {
     for at in 0..=bytes.len() + 1 {
         every_call(run, bytes, at);
     }
     run.check(&Count::new(bytes));
-}
-
-fn three(run: &mut Run, bytes: [u8; 3]) {
-    for call in TOKENS {
-        run.check(&Lex::new(&bytes, 0, call));
-    }
-    run.check(&Lex::new(&bytes, 0, Call::ReadLookupU24));
-    run.check(&Lex::new(&bytes, 2, Call::SkipValue(u16::from_le_bytes([bytes[0], bytes[1]]))));
+    one_save(run, bytes);
+    let reads = vec![Op::PeekLexemeId, Op::ReadRgb, Op::ReadBstr, Op::ReadLexemeId];
+    run.check(&Sequence::new(Source::slice(bytes.to_vec()), reads));
 }
 
 /// Each id with several payloads, each cut at every place; the ids around the reserved ones more thoroughly.

@@ -6,7 +6,7 @@ use crate::subjects::{Dump, Fast, Limit, Normal, normal_form};
 use saves::{Flavour, Plan, Rng, bad_colour, flip, narrow, random_bytes, random_ids, save};
 
 pub fn whole(run: &mut Run, rng: &mut Rng, cases: usize) {
-    few_bytes(run);
+    each_id(run);
     for flavour in Flavour::ALL {
         large(run, rng, flavour);
     }
@@ -19,15 +19,10 @@ pub fn whole(run: &mut Run, rng: &mut Rng, cases: usize) {
     limits(run);
 }
 
-/// All inputs of up to two bytes, and each two with some after them.
-fn few_bytes(run: &mut Run) {
-    one_save(run, &[]);
-    for first in 0..=u8::MAX {
-        one_save(run, &[first]);
-    }
+/// Each id, with some bytes after it and again.
+fn each_id(run: &mut Run) {
     for id in 0..=u16::MAX {
         let [first, second] = id.to_le_bytes();
-        one_save(run, &[first, second]);
         one_save(run, &[first, second, 1, 0, 4, 0, first, second, 1, 0, 3, 0, first, second, 1, 0]);
     }
 }
@@ -100,7 +95,7 @@ fn middling(run: &mut Run, rng: &mut Rng, flavour: Flavour) {
 }
 
 /// Without room, with a byte too few, with just enough, and with one more.
-fn one_save(run: &mut Run, bytes: &[u8]) {
+pub fn one_save(run: &mut Run, bytes: &[u8]) {
     let form = normal_form(bytes).map_or(bytes.len(), |form| form.len());
     for room in rooms(form) {
         run.check(&Normal::new(bytes, room));
