@@ -15,7 +15,7 @@ use Rattle.source.specs.Window.{Step, gives, Call, andThen, ifGiven, unread, he
 use Rattle.source.proofs.Cases.{by-check, held}
 use Rattle.capi.specs.Replies.{Reply, returned, into}
 use Rattle.capi.specs.Code.{asReply}
-use Rattle.capi.specs.Sources.{stateWords, stateOf, withState, asked, askedNumber, Left, leaves, leftOf, left, after, handed, calledFrom, called, partOf, windowPart}
+use Rattle.capi.specs.Sources.{stateWords, stateOf, withState, asked, askedNumber, Left, leaves, leftOf, left, after, calledFrom, called, partOf, windowPart}
 use Rattle.capi.specs.declared.states.Asked.{Asked}
 use Rattle.capi.specs.declared.states.Asked.the-variants.{State, Bad}
 use Rattle.capi.specs.declared.left.Left as C

@@ -6,7 +6,7 @@ use mathlib.Core.Path.{_≡_, refl, sym, ap, _∙_}
 use mathlib.Core.Bool.{Bool, true, false}
 use mathlib.Core.Option.{none, some}
 use mathlib.Core.List.{List}
-use lib.ListN.{length, take, drop, getD, length-drop}
+use lib.ListN.{length, take, drop, getD}
 use lib.Seq.{drop-drop, length-take-le}
 use lib.Dec.{leb, eqb}
 use borrow.Author.Tests.{le-leb, lt-leb, leb-true}
@@ -120,10 +120,6 @@ module _ (w : ℕ) (s : List ℕ) (p : ℕ) where
 
   pub num-lt : ((i : ℕ) → Fits w8 (getD s i 0)) → {x n : ℕ} → at (num w) s p ≡ found x n → x < 256 ^ w
   num-lt b e = rw (took e .value) (le-take-lt w (drop p s) (drop-bytes p s (bytes-all s b)))
-
-  -- a number that was there ends within the bytes, if it began there
-  pub num-in : {x n : ℕ} → p ≤ length s → at (num w) s p ≡ found x n → n ≤ length s
-  num-in h e = omega (arith, took e .next, took e .there, length-drop p s)
 
 -- a token by what follows its id
 pub by-id : (s : List ℕ) (p : ℕ) {i n : ℕ} {q : Payload} → at (num 2) s p ≡ found i n → after i ≡ q → at token s p ≡ at (payload q) s n

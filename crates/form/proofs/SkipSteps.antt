@@ -8,14 +8,13 @@ use mathlib.Core.List.{List}
 use lib.ListN.{length, drop, length-drop}
 use lib.Dec.{eqb}
 use borrow.Author.Tests.{lt-leb}
-use Rattle.form.specs.Table.{number, text, colour, nothing, after}
+use Rattle.form.specs.Table.{number, text, colour, after}
 use Rattle.form.specs.Refusals.{Fault, tooShort}
 use Rattle.form.specs.Readers.{Answer, found, refused, further, mapped, at}
 use Rattle.form.specs.Reading.{next, num, string, payload}
 use Rattle.form.specs.Values.{Value, Id}
 use Rattle.form.specs.Skipping.{Skip, past, stopped, stepped, passing, orStop, closed, turned, skipF, skipping}
 use Rattle.form.proofs.Lookups.{open-is, close-is}
-use Rattle.form.proofs.Found.{All, payload-in}
 use Rattle.form.proofs.Places.{took, at-giving, num-short, num-there}
 
 closed-same : (d p : ℕ) (f g : ℕ → Skip) → ((c : ℕ) → f c ≡ g c) → closed d p f ≡ closed d p g
@@ -97,33 +96,15 @@ module _ (i : ℕ) (s : List ℕ) (p : ℕ) where
   unfolding passing stepped payload
   pass-text {f} e = rw e (ap (mapped (λ _. tt)) (at-giving string f s p) ∙ mapped-tt f (at string s p))
 
-  pub pass-nothing : {v : Value} → after i ≡ nothing v → passing i s p ≡ found tt p
-  unfolding mapped
-  pass-nothing e = pass-number e ∙ rw (num-there 0 s p zero-le, add-zero p)
-
   pub pass-colour : after i ≡ colour → passing i s p ≡ found tt p
   unfolding passing stepped payload mapped
   pass-colour e = rw (e, at-giving (num 0) (λ _. Id i) s p, num-there 0 s p zero-le, add-zero p)
-
--- ---- how far a payload reaches
-
-pub passing-in : (i : ℕ) (s : List ℕ) (p : ℕ) {m : ℕ} → p ≤ length s → passing i s p ≡ found tt m → (p ≤ m) × (m ≤ length s)
-unfolding passing at further mapped
-passing-in i s p {m} l e = go (payload (stepped i (after i)) (drop p s)) (payload-in (stepped i (after i)) (drop p s)) e
-  where
-    go : (x : Answer Value) → All (λ _ k. k ≤ length (drop p s)) x → mapped (λ _. tt {0}) (further p x) ≡ found tt m → (p ≤ m) × (m ≤ length s)
-    go (found v k) h q = let z : p + k ≡ m = cc in (omega arith, omega (arith, length-drop p s))
-    go (refused why) h q = let z : _≡_ {A = ℕ} 0 1 = cc in absurd (omega arith)
 
 -- ---- an Open, a Close, and what is neither
 
 pub turned-open : (d m : ℕ) (go : ℕ → Skip) → turned 0x0003 d m go ≡ go (d + 1)
 unfolding turned
 turned-open d m go = rw open-is
-
-pub turned-out : (m : ℕ) (go : ℕ → Skip) → turned 0x0004 1 m go ≡ past m
-unfolding turned closed
-turned-out m go = rw (open-is, close-is)
 
 pub turned-up : (d m : ℕ) (go : ℕ → Skip) → 2 ≤ d → turned 0x0004 d m go ≡ go (d - 1)
 unfolding turned closed

@@ -1,20 +1,20 @@
 -- What is handed over is what was to come: the bytes taken, and the numbers read. Assumes nothing.
 use mathlib.Core.Path.{_≡_, refl, sym, ap, _∙_}
 use mathlib.Core.List.{List}
-use Prim.Native.Nat.{ℕ, _+_, _≤_}
+use Prim.Native.Nat.{ℕ}
 use native.Mathlib.Omega.{arith}
 use lib.ListN.{length, take, drop}
 use lib.Seq.{take-append-le, take-take}
 use Rattle.form.specs.Numbers.{le}
 use Rattle.payload.specs.declared.answers.Text.{Text}
 use Rattle.source.specs.declared.ParserSource.{ParserSource}
-use Rattle.source.specs.Window.{unread, past, Step, gives, refuses, andThen, _then_, textAt, heldIn, textIn, takenPart, window, ensured, taken}
+use Rattle.source.specs.Window.{unread, past, Step, gives, refuses, andThen, _then_, textAt, heldIn, textIn, window, ensured, taken}
 use Rattle.source.specs.Binary.{spelledAt, number}
 use Rattle.source.specs.Runs.{ahead}
 use Rattle.source.proofs.Stores.{part-length}
 use Rattle.source.proofs.Cases.{ensured-by, ready}
 use Rattle.source.proofs.Laws.{text-within}
-use Rattle.source.proofs.Kept.{Sound, Kept, Keeps, ensured-keeps, drop-none}
+use Rattle.source.proofs.Kept.{Sound, Keeps, ensured-keeps, drop-none}
 
 never : {A : Type 0} → _≡_ {A = ℕ} 0 1 → A
 never z = absurd (omega arith)
