@@ -26,7 +26,7 @@ eachId test [] = true
 eachId test (ks is p ∷ es) = every test ks && eachId test es
 eachId test (lo to hi is p ∷ es) = through test (hi - lo + 1) lo && eachId test es
 
-both : (a b : Bool) → a && b ≡ true → (a ≡ true) × (b ≡ true)
+pub both : (a b : Bool) → a && b ≡ true → (a ≡ true) × (b ≡ true)
 both true b h = (refl, h)
 both false b h = let z : _≡_ {A = ℕ} 0 1 = cc in absurd (omega arith)
 

@@ -7,6 +7,7 @@ pub mod Elsewhere
 pub mod Reserved
 pub mod ReadsBack
 pub mod Sound
+pub mod Standing
 pub mod TextsLast
 pub mod Walking
 pub mod SkipSteps

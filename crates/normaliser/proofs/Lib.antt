@@ -1,5 +1,8 @@
+pub mod Parts
+pub mod Runs
 pub mod Steps
 pub mod Passing
+pub mod Respelling
 pub mod Choosing
 pub mod Unique
 pub mod Clean

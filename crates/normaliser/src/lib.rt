@@ -1,12 +1,15 @@
 // The whole save in normal form, into a lent output.
+mod standing;
+
 ghost use mathlib.Core.Path.{_≡_};
-ghost use Prim.Native.Nat.{_≤_};
+ghost use Prim.Native.Nat.{_≤_, _<_};
 ghost use lib.ListN.{length};
 ghost use Rattle.form.specs.Refusals.{refusalAt};
 ghost use Rattle.form.specs.Saves.{LIMIT as Saves·LIMIT};
 ghost use Rattle.form.specs.Writing.{declined, normalise as Writing·normalise};
 ghost use Rattle.payload.specs.Answers.{faultOf};
 ghost use Rattle.writer.specs.Writes.{Follows};
+ghost use Rattle.normaliser.specs.Parts.{Placed, Respells, Copied};
 ghost use Rattle.normaliser.specs.Passes.{normalisedOutcome, Passed};
 use payload::LexError;
 use token::ReadToken;
@@ -34,34 +37,72 @@ fn refused(e: LexError, at: usize) -> Normalised
     }
 }
 
-// Each token after the other, in its normal spelling. What does not fit is counted and not written: so on an output of no bytes the
-// pass measures.
+// Where bytes go in an output after so many: at its end, where those do not fit.
+fn place(need: usize, room: usize) -> usize
+    ensures { λ r. ⌜ Placed need room r ⌝ }
+{
+    if need <= room { need } else { room }
+}
+
+// The place after a token, and how many bytes it is spelled by; or its refusal.
+pub enum Respelled {
+    To(usize, usize),
+    Refused(Normalised),
+}
+
+// The token at a place, in its normal spelling after so many bytes of the output.
+fn respell(bytes: &[u8], at: usize, out: &mut [u8], need: usize) -> Respelled
+    requires { ⌜ at < length (now bytes) ⌝ }
+    ensures { λ r. ⌜ Respells (now (bytes .entry)) at (now (out .entry)) need (now (out .exit)) r ⌝ }
+{
+    let r = token::read_token(bytes, at);
+    let ReadToken::Got(t, next) = r else {
+        return Respelled::Refused(refused(r.refusal(), at));
+    };
+    let to = place(need, out.len());
+    match writer::write(bytes, t, &mut out[to..]) {
+        Wrote::Written(n) => Respelled::To(next, n),
+        Wrote::NoRoom(n) => Respelled::To(next, n),
+        // No text that was read is at a bad place.
+        Wrote::NotEncodable(_) | Wrote::BadPlace(_) => {
+            let why = Normalised::NotEncodable(at);
+            Respelled::Refused(why)
+        }
+    }
+}
+
+// The tokens from a place on that are spelled as they stand, copied. Answers the place after them.
+fn copy_run(bytes: &[u8], start: usize, out: &mut [u8], need: usize) -> usize
+    requires { ⌜ start ≤ length (now bytes) ⌝ }
+    ensures { λ r. ⌜ Copied (now (bytes .entry)) start (now (out .entry)) need (now (out .exit)) r ⌝ }
+{
+    let end = standing::standing(bytes, start);
+    let from = place(need, out.len());
+    writer::copy(&bytes[start..end], &mut out[from..]);
+    end
+}
+
+// A token in its normal spelling, then the tokens after it that are spelled as they stand, and so on. What does not fit is counted and
+// not written: so on an output of no bytes the pass measures.
 fn pass(bytes: &[u8], out: &mut [u8]) -> Normalised
     requires { ⌜ length (now bytes) ≤ Saves·LIMIT ⌝ }
     ensures { λ r. ⌜ Passed (now (bytes .entry)) (now (out .entry)) (now (out .exit)) r ⌝ }
 {
     let mut i: usize = 0;
-    let mut at: usize = 0;
     let mut need: usize = 0;
     while i < bytes.len() {
-        let r = token::read_token(bytes, i);
-        let ReadToken::Got(t, next) = r else {
-            return refused(r.refusal(), i);
-        };
-        match writer::write(bytes, t, &mut out[at..]) {
-            Wrote::Written(n) => {
-                at += n;
-                need += n;
+        let token = respell(bytes, i, out, need);
+        match token {
+            Respelled::Refused(why) => {
+                return why;
             }
-            Wrote::NoRoom(n) => {
+            Respelled::To(next, n) => {
                 need += n;
-            }
-            // No text that was read is at a bad place.
-            Wrote::NotEncodable(_) | Wrote::BadPlace(_) => {
-                return Normalised::NotEncodable(i);
+                let end = copy_run(bytes, next, out, need);
+                need += end - next;
+                i = end;
             }
         }
-        i = next;
     }
     Normalised::Written(need)
 }

@@ -4,7 +4,7 @@ use mathlib.Core.Path.{_≡_, refl, sym, _∙_}
 use mathlib.Core.List.{List}
 use lib.ListN.{length}
 use Rattle.form.specs.Refusals as R
-use Rattle.form.specs.Writing.{Output, Outcome, wrote, declined}
+use Rattle.form.specs.Writing.{Output, Outcome, wrote, declined, fitted}
 use Rattle.form.proofs.Unique.{same}
 use Rattle.token.specs.declared.Token.{Token}
 use Rattle.writer.specs.declared.Wrote.{Wrote}
@@ -37,3 +37,7 @@ wrote-back (BadPlace p) = refl
 pub write-one : (s : List ℕ) (t : Token) (d : List ℕ) {r r′ : Wrote} {d′ d″ : List ℕ}
     → Follows (writeToken (length d) s t) (wroteOutcome r) d d′ → Follows (writeToken (length d) s t) (wroteOutcome r′) d d″ → (r ≡ r′) × (d′ ≡ d″)
 write-one s t d = follows-one wroteOutcome wroteBack wrote-back (writeToken (length d) s t) d
+
+pub copy-one : (s d : List ℕ) {r r′ : Wrote} {d′ d″ : List ℕ}
+    → Follows (fitted (length d) s) (wroteOutcome r) d d′ → Follows (fitted (length d) s) (wroteOutcome r′) d d″ → (r ≡ r′) × (d′ ≡ d″)
+copy-one s d = follows-one wroteOutcome wroteBack wrote-back (fitted (length d) s) d

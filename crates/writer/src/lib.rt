@@ -1,10 +1,10 @@
-// The checked writer: one token at the front of a lent output.
+// The checked writer: one token at the front of a lent output, or bytes that are spelled already.
 mod parts;
 mod put;
 
 ghost use mathlib.Core.Path.{_≡_};
 ghost use lib.ListN.{length};
-ghost use Rattle.form.specs.Writing.{outcome};
+ghost use Rattle.form.specs.Writing.{outcome, fitted};
 ghost use Rattle.writer.specs.Parts.{writeBy};
 ghost use Rattle.writer.specs.Writes.{writeToken, wroteOutcome, Follows, Fitted};
 use crate::parts::Parts;
@@ -88,5 +88,17 @@ pub fn write(bytes: &[u8], token: Token, out: &mut [u8]) -> Wrote
         return answer;
     };
     put::parts(out, 0, bytes, p);
+    answer
+}
+
+// The bytes as they are at the front of the output, or a refusal that leaves the output as it is.
+pub fn copy(src: &[u8], out: &mut [u8]) -> Wrote
+    ensures { λ r. ⌜ Follows (fitted (length (now (out .entry))) (now (src .entry))) (wroteOutcome r) (now (out .entry)) (now (out .exit)) ⌝ }
+{
+    let answer = fit(src.len(), out.len());
+    let Wrote::Written(_) = answer else {
+        return answer;
+    };
+    put::all(out, 0, src);
     answer
 }

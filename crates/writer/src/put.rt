@@ -28,7 +28,7 @@ fn number(out: &mut [u8], at: usize, width: usize, x: u64) -> usize
 }
 
 // All of src.
-fn all(out: &mut [u8], at: usize, src: &[u8]) -> usize
+pub(crate) fn all(out: &mut [u8], at: usize, src: &[u8]) -> usize
     requires { ⌜ at + length (now src) ≤ length (now out) ⌝ }
     ensures { λ r. ⌜ Put (now (out .entry)) at (now (src .entry)) (now (out .exit)) r ⌝ }
 {

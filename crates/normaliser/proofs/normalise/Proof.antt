@@ -70,7 +70,7 @@ returns-4 c =
     let p = c .before .before .pass2 .ensures in
     let o = fitting (length (now (a .out))) s (c .before .before .before .before .before .before .before .before .before .before .before .before .if1 .left) (w .0) (omega (arith, ap length e, w .1)) in
     record {
-      answer = p .answer ∙ unbounded-none s (w .0) ∙ sym (ap outcome o);
+      answer = p .answer ∙ ap outcome (unbounded-none s (w .0) ∙ sym o);
       output = p .bytes (w .0) (omega (arith, w .1)) ∙ ap (leaves (written (normal s))) e ∙ sym (ap (λ x. leaves x (now (a .out))) o);
     }
 

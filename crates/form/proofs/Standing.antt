@@ -1,0 +1,235 @@
+-- Tokens whose bytes are already their spelling. Assumes nothing.
+use Prim.Native.Nat.{ℕ, zero, suc, _+_, _^_, _≤_, _<_}
+use native.Mathlib.Omega.{arith}
+use mathlib.Core.Path.{_≡_, refl, sym, ap, _∙_}
+use mathlib.Core.Bool.{Bool, true, false, not, _&&_}
+use mathlib.Core.List.{List, [], _∷_, _++_}
+use mathlib.Core.Logic.{inl, inr}
+use lib.ListN.{length, take, drop, length-drop}
+use lib.Seq.{take-add, length-take-le}
+use lib.Dec.{ltb, eqb}
+use types.Run.{OneOf}
+use borrow.Author.Tests.{le-leb, lt-ltb, eqb-true, eq-eqb, ne-eqb}
+use mir.Syntax.{w32, w64}
+use mir.ValLaws.{ofZ-toZ}
+use Rattle.form.specs.Numbers.{le, leBytes, Bytes}
+use Rattle.form.specs.Values.{Value, U32, U64, F32, F64, Lookup, Quoted, Unquoted, signed32, signed64, nonzero, kind}
+use Rattle.form.specs.Table.{Payload, number, text, colour, table, entries, find, orPlain, after, reserved}
+use Rattle.form.specs.Ids.{sample, alike, findId, idOf}
+use Rattle.form.specs.Readers.{found, further, andThen, mapped, _followed-by_, _giving_}
+use Rattle.form.specs.Reading.{next, num, string, payload, token}
+use Rattle.form.specs.Spelling.{tag, bit, body, spell, writable, wide}
+use Rattle.form.proofs.LittleEndian.{bytes-le, take-bytes, drop-bytes}
+use Rattle.form.proofs.Lookups.{plain-after}
+use Rattle.form.proofs.Elsewhere.{both}
+use Rattle.form.proofs.Sound.{_&_}
+
+-- ---- what follows an id, where both are spelled as they stand
+
+-- v is spelled by the id i and the bytes bs, and can be written
+abbrev Keeps : ℕ → List ℕ → Value → Type 0
+Keeps i bs v = (spell v ≡ leBytes 2 i ++ bs) × (wide v ≡ false)
+
+-- w bytes follow i, and each number below m that they spell is kept
+pub record KeptNumber (w m i : ℕ) : Type 0 where
+  pub value : ℕ → Value
+  pub is : after i ≡ number w value
+  pub keeps : (n : ℕ) → n < m → Keeps i (leBytes w n) (value n)
+
+-- a text follows i, and is kept
+pub record KeptText (i : ℕ) : Type 0 where
+  pub value : List ℕ → Value
+  pub is : after i ≡ text value
+  pub keeps : (t : List ℕ) → Keeps i (leBytes 2 (length t) ++ t) (value t)
+
+-- ---- the token at the front of the bytes
+
+-- it is spelled by its n bytes
+pub record Stands (s : List ℕ) (n : ℕ) : Type 0 where
+  pub value : Value
+  pub some : 2 ≤ n
+  pub there : n ≤ length s
+  pub read : token s ≡ found value n
+  pub same : spell value ≡ take n s
+  pub narrow : wide value ≡ false
+
+-- the bytes of a number are those that spell it
+number-same : (s : List ℕ) → Bytes s → (w : ℕ) → w ≤ length s → leBytes w (le (take w s)) ≡ take w s
+number-same s b w h = ap (λ (k : ℕ). leBytes k (le (take w s))) (sym (length-take-le w s h)) ∙ bytes-le (take w s) (take-bytes w s b)
+
+next-there : (n : ℕ) (s : List ℕ) → n ≤ length s → next n s ≡ found (take n s) n
+unfolding next
+next-there n s h = rw (le-leb n (length s) h)
+
+num-there : (w : ℕ) (s : List ℕ) → w ≤ length s → num w s ≡ found (le (take w s)) w
+unfolding num _giving_ mapped
+num-there w s h = rw (next-there w s h)
+
+module _ (s : List ℕ) (b : Bytes s) (l : 2 ≤ length s) where
+  abbrev i : ℕ
+  i = le (take 2 s)
+
+  abbrev r : List ℕ
+  r = drop 2 s
+
+  -- by what follows the id
+  by-id : {p : Payload} → after i ≡ p → token s ≡ further 2 (payload p r)
+  unfolding token _followed-by_ andThen
+  by-id e = rw (num-there 2 s l, e)
+
+  pub number-stands : {w m : ℕ} → KeptNumber w m i → w ≤ length r → le (take w r) < m → Stands s (2 + w)
+  unfolding payload _giving_ mapped further
+  number-stands {w} {m} k h q =
+      let n = le (take w r) in
+      record {
+        value = k .value n;
+        some = omega arith;
+        there = omega (arith, length-drop 2 s);
+        read = by-id (k .is) ∙ rw (num-there w r h);
+        same =
+            k .keeps n q .0
+            ∙ rw (number-same s b 2 l, number-same r (drop-bytes 2 s b) w h) (sym (take-add 2 w s));
+        narrow = k .keeps n q .1;
+      }
+
+  pub text-stands : KeptText i → 2 ≤ length r → 2 + le (take 2 r) ≤ length r → Stands s (2 + (2 + le (take 2 r)))
+  unfolding payload string _giving_ _followed-by_ andThen mapped further
+  text-stands k h q =
+      let n = le (take 2 r) in
+      let t = take n (drop 2 r) in
+      let fits : n ≤ length (drop 2 r) = omega (arith, length-drop 2 r) in
+      let size : length t ≡ n = length-take-le n (drop 2 r) fits in
+      record {
+        value = k .value t;
+        some = omega arith;
+        there = omega (arith, length-drop 2 s);
+        read = by-id (k .is) ∙ rw (num-there 2 r h, next-there n (drop 2 r) fits);
+        same =
+            k .keeps t .0
+            ∙ rw (size, number-same s b 2 l, number-same r (drop-bytes 2 s b) 2 h) (sym (take-add 2 (2 + n) s ∙ ap (λ (x : List ℕ). take 2 s ++ x) (take-add 2 n r)));
+        narrow = k .keeps t .1;
+      }
+
+-- ---- the ids, as the arms of a `match` have them: what holds of each holds of a number that is one of them
+
+abbrev pub OfEach : (ℕ → Type 0) → List ℕ → Type 0
+OfEach P [] = Unit {0}
+OfEach P (k ∷ ks) = P k × OfEach P ks
+
+pub of-one : (P : ℕ → Type 0) {x : ℕ} (ks : List ℕ) → OfEach P ks → OneOf ks x → P x
+of-one P [] t h = absurd h
+of-one P (k ∷ []) t h = rw h (t .0)
+of-one P (k ∷ k′ ∷ ks) t (inl h) = rw h (t .0)
+of-one P (k ∷ k′ ∷ ks) t (inr h) = of-one P (k′ ∷ ks) (t .1) h
+
+-- every number of w bytes
+abbrev pub Kept : ℕ → ℕ → Type 0
+Kept w i = KeptNumber w (256 ^ w) i
+
+abbrev pub fours : List ℕ
+fours = 0x000c ∷ 0x0014 ∷ []
+
+pub fours-kept : OfEach (Kept 4) fours
+unfolding after find entries table orPlain spell tag body wide kind writable idOf findId alike sample
+fours-kept =
+    record { value = signed32; is = refl; keeps = λ n h. (rw (ofZ-toZ w32 n (record { fits = h })), refl) }
+    & record { value = U32; is = refl; keeps = λ n h. (refl, refl) }
+    & tt
+
+abbrev pub floats : List ℕ
+floats = 0x000d ∷ []
+
+pub floats-kept : OfEach (Kept 4) floats
+unfolding after find entries table orPlain spell tag body wide kind writable idOf findId alike sample
+floats-kept = record { value = F32; is = refl; keeps = λ n h. (refl, refl) } & tt
+
+abbrev pub eights : List ℕ
+eights = 0x0167 ∷ 0x029c ∷ 0x0317 ∷ []
+
+pub eights-kept : OfEach (Kept 8) eights
+unfolding after find entries table orPlain spell tag body wide kind writable idOf findId alike sample
+eights-kept =
+    record { value = F64; is = refl; keeps = λ n h. (refl, refl) }
+    & record { value = U64; is = refl; keeps = λ n h. (refl, refl) }
+    & record { value = signed64; is = refl; keeps = λ n h. (rw (ofZ-toZ w64 n (record { fits = h })), refl) }
+    & tt
+
+narrow-enough : (n : ℕ) → n < 256 ^ 3 → not (ltb n (2 ^ 24)) ≡ false
+narrow-enough n h = rw (lt-ltb n (2 ^ 24) h)
+
+abbrev pub threes : List ℕ
+threes = 0x0d41 ∷ []
+
+pub threes-kept : OfEach (Kept 3) threes
+unfolding after find entries table orPlain spell tag body wide kind writable idOf findId alike sample
+threes-kept = record { value = Lookup; is = refl; keeps = λ n h. (refl, narrow-enough n h) } & tt
+
+-- of a truth, 0 and 1
+bit-same : (n : ℕ) → n < 2 → bit (not (eqb n 0)) ≡ n
+bit-same zero h = refl
+bit-same (suc n) h = rw (ne-eqb (suc n) 0 (λ e. omega arith)) (omega arith)
+
+abbrev pub truths : List ℕ
+truths = 0x000e ∷ []
+
+pub truths-kept : OfEach (KeptNumber 1 2) truths
+unfolding after find entries table orPlain spell tag body wide kind writable idOf findId alike sample
+truths-kept = record { value = nonzero; is = refl; keeps = λ n h. (rw (bit-same n h), refl) } & tt
+
+abbrev pub texts : List ℕ
+texts = 0x000f ∷ 0x0017 ∷ []
+
+pub texts-kept : OfEach KeptText texts
+unfolding after find entries table orPlain spell tag body wide kind writable idOf findId alike sample
+texts-kept =
+    record { value = Quoted; is = refl; keeps = λ t. (refl, refl) }
+    & record { value = Unquoted; is = refl; keeps = λ t. (refl, refl) }
+    & tt
+
+-- ---- ids that stand alone and are spelled so: the test, which plain ids pass
+
+never : {A : Type 0} → _≡_ {A = Bool} false true → A
+never e = let z : _≡_ {A = ℕ} 0 1 = cc in absurd (omega arith)
+
+abbrev isNil : List ℕ → Bool
+isNil [] = true
+isNil (b ∷ bs) = false
+
+abbrev aloneBy : ℕ → Payload → Bool
+aloneBy i (number w f) = eqb w 0 && (eqb (tag (f 0)) i && (isNil (body (f 0)) && not (wide (f 0))))
+aloneBy i (text f) = false
+aloneBy i colour = false
+
+abbrev pub alone : ℕ → Bool
+alone i = aloneBy i (after i)
+
+pub plain-alone : (i : ℕ) → reserved i ≡ false → alone i ≡ true
+unfolding tag body wide kind
+plain-alone i e = rw (plain-after i e, eq-eqb i i refl)
+
+nil-is : (l : List ℕ) → isNil l ≡ true → l ≡ []
+nil-is [] e = refl
+nil-is (b ∷ bs) e = never e
+
+not-is : (b : Bool) → not b ≡ true → b ≡ false
+not-is true e = never e
+not-is false e = refl
+
+pub alone-kept : (i : ℕ) → alone i ≡ true → Kept 0 i
+unfolding spell leBytes
+alone-kept i e = go (after i) refl e
+  where
+    go : (p : Payload) → after i ≡ p → aloneBy i p ≡ true → Kept 0 i
+    go (number w f) q e =
+        let a = both (eqb w 0) _ e in
+        let b = both (eqb (tag (f 0)) i) _ (a .1) in
+        let c = both (isNil (body (f 0))) _ (b .1) in
+        record {
+          value = f;
+          is = q ∙ ap (λ (k : ℕ). number k f) (eqb-true w 0 (a .0));
+          keeps = λ n h.
+              let z : n ≡ 0 = omega arith in
+              rw z ((λ k. leBytes 2 (eqb-true (tag (f 0)) i (b .0) k) ++ nil-is (body (f 0)) (c .0) k), not-is (wide (f 0)) (c .1));
+        }
+    go (text f) q e = never e
+    go colour q e = never e

@@ -1,0 +1,124 @@
+-- `normaliser::standing::stands` meets its contract. Assumes nothing.
+use borrow.Author.Needs.{needs}
+use mathlib.Core.Path.{refl}
+use mathlib.Core.List.{List, [], _∷_}
+use Prim.Native.Nat.{ℕ}
+use Rattle.form.specs.Values.{kind}
+use Rattle.form.specs.Table.{table, entries, find, orPlain, after}
+use Rattle.form.specs.Ids.{sample, alike, findId, idOf}
+use Rattle.form.specs.Spelling.{tag, body, writable, wide}
+use Rattle.form.proofs.Standing.{KeptNumber, KeptText, of-one, Kept, fours, fours-kept, floats, floats-kept, eights, eights-kept, threes, threes-kept, truths, truths-kept, texts, texts-kept}
+use Rattle.payload.specs.Answers.{idAnswer}
+use Rattle.payload.proofs.Laws.{gotOf}
+use Rattle.normaliser.proofs.Runs.{number-arm, text-arm, alone-arm, alone-below, alone-above}
+use Rattle.normaliser.proofs.standing.stands.Statement.{statement}
+use Rattle.normaliser.proofs.standing.stands.Tie as tie
+
+abbrev colours : List ℕ
+colours = 0x0243 ∷ []
+
+abbrev arms : List (List ℕ)
+arms = texts ∷ fours ∷ floats ∷ eights ∷ threes ∷ truths ∷ colours ∷ []
+
+read-id-requires : tie.Need-read-id-requires
+read-id-requires c κs = search needs
+
+enum-known-read : tie.Need-enum-known-read
+enum-known-read c = search needs
+
+enum-told : tie.Need-enum-told
+enum-told c = search needs
+
+returns : tie.Need-returns
+returns c = tt
+
+string-requires : tie.Need-string-requires
+string-requires c κs = search needs
+
+fixed-requires : tie.Need-fixed-requires
+fixed-requires c κs = search needs
+
+fixed-requires-2 : tie.Need-fixed-requires-2
+fixed-requires-2 c κs = search needs
+
+fixed-requires-3 : tie.Need-fixed-requires-3
+fixed-requires-3 c κs = search needs
+
+fixed-requires-4 : tie.Need-fixed-requires-4
+fixed-requires-4 c κs = search needs
+
+truth-requires : tie.Need-truth-requires
+truth-requires c κs = search needs
+
+returns-2 : tie.Need-returns-2
+unfolding after orPlain find entries table tag body wide kind writable idOf findId alike sample
+returns-2 c =
+    let a = c .before .before .before .before .before .before .before .args in
+    alone-arm (a .bytes .now) (c .before .before .before .before .before .before .shared-slice-known .given) (a .at) (gotOf idAnswer (c .before .before .before .before .before .read-id .ensures) (c .before .before .before .read .given .1)) (alone-below arms refl _ (c .before .match2 .rest) (c .if1 .taken))
+
+returns-3 : tie.Need-returns-3
+unfolding after orPlain find entries table tag body wide kind writable idOf findId alike sample
+returns-3 c =
+    let a = c .before .before .before .before .before .before .before .before .args in
+    alone-arm (a .bytes .now) (c .before .before .before .before .before .before .before .shared-slice-known .given) (a .at) (gotOf idAnswer (c .before .before .before .before .before .before .read-id .ensures) (c .before .before .before .before .read .given .1)) (alone-above arms refl _ (c .before .before .match2 .rest) (c .if2 .taken))
+
+returns-4 : tie.Need-returns-4
+returns-4 c =
+    let a = c .before .before .before .before .before .before .before .args in
+    text-arm (a .bytes .now) (c .before .before .before .before .before .before .shared-slice-known .given) (a .at) (gotOf idAnswer (c .before .before .before .before .before .read-id .ensures) (c .before .before .before .read .given .1)) (of-one KeptText texts texts-kept (c .before .match2 .keys1)) (c .string .result) (c .string .ensures)
+
+returns-5 : tie.Need-returns-5
+returns-5 c =
+    let a = c .before .before .before .before .before .before .before .args in
+    number-arm (a .bytes .now) (c .before .before .before .before .before .before .shared-slice-known .given) (a .at) (gotOf idAnswer (c .before .before .before .before .before .read-id .ensures) (c .before .before .before .read .given .1)) (of-one (Kept 4) fours fours-kept (c .before .match2 .keys2)) (c .fixed .result) (c .fixed .ensures)
+
+returns-6 : tie.Need-returns-6
+returns-6 c =
+    let a = c .before .before .before .before .before .before .before .args in
+    number-arm (a .bytes .now) (c .before .before .before .before .before .before .shared-slice-known .given) (a .at) (gotOf idAnswer (c .before .before .before .before .before .read-id .ensures) (c .before .before .before .read .given .1)) (of-one (Kept 4) floats floats-kept (c .before .match2 .keys3)) (c .fixed2 .result) (c .fixed2 .ensures)
+
+returns-7 : tie.Need-returns-7
+returns-7 c =
+    let a = c .before .before .before .before .before .before .before .args in
+    number-arm (a .bytes .now) (c .before .before .before .before .before .before .shared-slice-known .given) (a .at) (gotOf idAnswer (c .before .before .before .before .before .read-id .ensures) (c .before .before .before .read .given .1)) (of-one (Kept 8) eights eights-kept (c .before .match2 .keys4)) (c .fixed3 .result) (c .fixed3 .ensures)
+
+returns-8 : tie.Need-returns-8
+returns-8 c =
+    let a = c .before .before .before .before .before .before .before .args in
+    number-arm (a .bytes .now) (c .before .before .before .before .before .before .shared-slice-known .given) (a .at) (gotOf idAnswer (c .before .before .before .before .before .read-id .ensures) (c .before .before .before .read .given .1)) (of-one (Kept 3) threes threes-kept (c .before .match2 .keys5)) (c .fixed4 .result) (c .fixed4 .ensures)
+
+returns-9 : tie.Need-returns-9
+returns-9 c =
+    let a = c .before .before .before .before .before .before .before .args in
+    number-arm (a .bytes .now) (c .before .before .before .before .before .before .shared-slice-known .given) (a .at) (gotOf idAnswer (c .before .before .before .before .before .read-id .ensures) (c .before .before .before .read .given .1)) (of-one (KeptNumber 1 2) truths truths-kept (c .before .match2 .keys6)) (c .truth .result) (c .truth .ensures)
+
+returns-10 : tie.Need-returns-10
+returns-10 c = tt
+
+returns-11 : tie.Need-returns-11
+returns-11 c = tt
+
+pub stands-spec : {M : Type 1} → statement M
+stands-spec =
+    tie.close
+    (tie.spec
+    read-id-requires
+    enum-known-read
+    enum-told
+    returns
+    string-requires
+    fixed-requires
+    fixed-requires-2
+    fixed-requires-3
+    fixed-requires-4
+    truth-requires
+    returns-2
+    returns-3
+    returns-4
+    returns-5
+    returns-6
+    returns-7
+    returns-8
+    returns-9
+    returns-10
+    returns-11)
