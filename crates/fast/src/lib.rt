@@ -3,10 +3,11 @@ mod hold;
 
 ghost use mathlib.Core.Path.{_≡_};
 ghost use Prim.Native.Nat.{_+_, _≤_};
-ghost use lib.ListN.{length, take};
+ghost use lib.ListN.{length, take, replicate};
 ghost use Rattle.form.specs.Numbers.{le};
 ghost use Rattle.form.specs.Table.{after};
 ghost use Rattle.form.specs.Fast.{stepBy, fastStep};
+ghost use Rattle.lexeme.specs.declared.TokenKind.the-variants.{Lookup};
 ghost use Rattle.fast.specs.Steps.{stepped, slowly, aloneOf, namedOf, copied, compactly, texted};
 use lexeme::LexemeId;
 use lexeme::TokenKind;
@@ -48,6 +49,14 @@ fn copy(window: &[u8], kind: TokenKind, width: usize, held: [u8; 8]) -> FastToke
         step: Step::Fast(kind, len),
         held: bytes,
     }
+}
+
+// A lookup: zeros come after its bytes.
+fn lookup(window: &[u8], width: usize) -> FastToken
+    requires { ⌜ (width ≤ 8) × (16 ≤ length (now window)) ⌝ }
+    ensures { λ r. ⌜ r ≡ copied Lookup width (now (window .entry)) (replicate 8 0) ⌝ }
+{
+    copy(window, TokenKind::Lookup, width, [0u8; 8])
 }
 
 // A compact number, as eight bytes.
@@ -122,44 +131,20 @@ fn by_id(window: &[u8], id: LexemeId, held: [u8; 8]) -> FastToken
         number::BOOL => copy(window, TokenKind::Bool, 1, held),
         number::QUOTED => string(window, TokenKind::Quoted, held),
         number::UNQUOTED | number::STR_SAV03 => string(window, TokenKind::Unquoted, held),
-        number::EMPTY_STRING => alone(TokenKind::Quoted, [0u8; 8]),
+        number::EMPTY_STRING => alone(TokenKind::Quoted, zeros),
         number::RGB => slow(held),
-        number::LOOKUP_U8 | number::LOOKUP_U8_ALT | number::LOOKUP_U8_SAV03 => copy(
-            window,
-            TokenKind::Lookup,
-            1,
-            zeros,
-        ),
-        number::LOOKUP_U16 | number::LOOKUP_U16_ALT | number::LOOKUP_U16_SAV03 => copy(
-            window,
-            TokenKind::Lookup,
-            2,
-            zeros,
-        ),
-        number::LOOKUP_U24 | number::LOOKUP_U24_ALT | number::LOOKUP_U24_SAV03 => copy(
-            window,
-            TokenKind::Lookup,
-            3,
-            zeros,
-        ),
-        number::LOOKUP_U32 | number::LOOKUP_U32_ALT | number::LOOKUP_U32_SAV03 => copy(
-            window,
-            TokenKind::Lookup,
-            4,
-            zeros,
-        ),
-        number::FIXED5_ZERO..=number::FIXED5_U56 => compact(
-            window,
-            (n - number::FIXED5_ZERO) as usize,
-            false,
-            held,
-        ),
-        number::FIXED5_I8..=number::FIXED5_I56 => compact(
-            window,
-            (n - number::FIXED5_U56) as usize,
-            true,
-            held,
-        ),
+        number::LOOKUP_U8 | number::LOOKUP_U8_ALT | number::LOOKUP_U8_SAV03 => lookup(window, 1),
+        number::LOOKUP_U16 | number::LOOKUP_U16_ALT | number::LOOKUP_U16_SAV03 => lookup(window, 2),
+        number::LOOKUP_U24 | number::LOOKUP_U24_ALT | number::LOOKUP_U24_SAV03 => lookup(window, 3),
+        number::LOOKUP_U32 | number::LOOKUP_U32_ALT | number::LOOKUP_U32_SAV03 => lookup(window, 4),
+        number::FIXED5_ZERO..=number::FIXED5_U56 => {
+            let width = (n - number::FIXED5_ZERO) as usize;
+            compact(window, width, false, held)
+        }
+        number::FIXED5_I8..=number::FIXED5_I56 => {
+            let width = (n - number::FIXED5_U56) as usize;
+            compact(window, width, true, held)
+        }
         _ => named(window, held),
     }
 }

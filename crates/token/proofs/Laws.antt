@@ -93,6 +93,13 @@ module _ (s : List ℕ) (p : ℕ) where
   unfolding placed
   nothing-at v = sym (numbers 0 (λ _. v) ∙ rw (num-there 0 s p zero-le, add-zero p))
 
+  -- the empty string's text stands at the place after its id
+  pub empty-at : {b : Answer Token} → b ≡ found (T.Quoted (record { start = p; len = 0 })) p → b ≡ payloadAt (nothing (F.Quoted [])) s p
+  unfolding tokenOf
+  empty-at l =
+      let d : p ≡ p - 0 = omega arith in
+      l ∙ ap (λ (k : ℕ). found (T.Quoted (record { start = k; len = 0 })) p) d ∙ nothing-at (F.Quoted [])
+
 -- a colour's token is the colour
 pub colour-token : (e : ℕ) (x : Rgb) → tokenOf e (colourOf x) ≡ T.Rgb x
 unfolding tokenOf
@@ -102,20 +109,18 @@ colour-token e x = ap (λ (a : Alpha). T.Rgb (record { r = x .r; g = x .g; b = x
     back Absent = refl
     back (Given a) = refl
 
--- the empty string's token stands at the place after its id
-pub empty-token : (p : ℕ) → tokenOf p (F.Quoted []) ≡ T.Quoted (record { start = p; len = 0 })
-unfolding tokenOf
-empty-token p =
-    let d : p - 0 ≡ p = omega arith in
-    ap (λ (k : ℕ). T.Quoted (record { start = k; len = 0 })) d
-
 -- ---- a token by its id
 
 module _ (s : List ℕ) (p : ℕ) where
-  pub after-id : {r : ReadId} {i : LexemeId} {n : ℕ} {q : Payload} {b : Answer Token}
-      → idAnswer r ≡ at (num 2) s p → r ≡ Got i n → after (i .0) ≡ q → b ≡ payloadAt q s n → b ≡ tokenAt s p
-  unfolding tokenAt payloadAt
-  after-id e k h l = l ∙ sym (ap (placed tokenOf) (by-id s p (gotOf idAnswer e k) h))
+  -- by the id's entry of the table
+  pub by-entry : {q q′ : Payload} {b : Answer Token} → q ≡ q′ → b ≡ payloadAt q′ s p → b ≡ placed tokenOf (at (payload q) s p)
+  unfolding payloadAt
+  by-entry h l = l ∙ sym (ap (λ (x : Payload). placed tokenOf (at (payload x) s p)) h)
+
+  pub after-id : {r : ReadId} {i : LexemeId} {n : ℕ} {b : Answer Token}
+      → idAnswer r ≡ at (num 2) s p → r ≡ Got i n → b ≡ placed tokenOf (at (payload (after (i .0))) s n) → b ≡ tokenAt s p
+  unfolding tokenAt
+  after-id e k l = l ∙ sym (ap (placed tokenOf) (by-id s p (gotOf idAnswer e k) refl))
 
   pub no-id : {r t : ReadId} {f : Fault}
       → idAnswer r ≡ at (num 2) s p → r ≡ t → f ≡ why (idAnswer r) → idAnswer t ≡ refused (why (idAnswer t)) → refused f ≡ tokenAt s p

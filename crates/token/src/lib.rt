@@ -2,13 +2,16 @@
 mod texts;
 
 ghost use mathlib.Core.Path.{_≡_};
-ghost use Rattle.form.specs.Readers.{placed};
+ghost use Rattle.form.specs.Table.{after};
+ghost use Rattle.form.specs.Readers.{found, at as readAt, placed};
+ghost use Rattle.form.specs.Reading.{payload};
 ghost use Rattle.payload.specs.Answers.{faultOf, why, u8Answer, u16Answer, u32Answer, u64Answer, i32Answer, i64Answer, boolAnswer, textAnswer, rgbAnswer};
 ghost use Rattle.token.specs.Tokens.{tokenAnswer, tokenOf, tokenAt};
 ghost use Rattle.token.specs.declared.Token.the-variants as T;
 pub use crate::texts::TextAnswer;
 pub use crate::texts::text;
 pub use crate::texts::text_part;
+use lexeme::LexemeId;
 use lexeme::number;
 use payload::LexError;
 use payload::ReadBool;
@@ -180,15 +183,24 @@ fn lookup_token(r: ReadU32) -> ReadToken
     ReadToken::Got(Token::Lookup(x), next)
 }
 
-// The token at a place, and the place after it. Reads that are compiled as calls get a slice of their own: the address of this one is then
-// nobody's, and it stays in registers.
-pub fn read_token(bytes: &[u8], at: usize) -> ReadToken
-    ensures { λ r. ⌜ tokenAnswer r ≡ tokenAt (now (bytes .entry)) at ⌝ }
+// The empty string is its id alone: its text stands after it.
+fn empty_token(next: usize) -> ReadToken
+    ensures { λ t. ⌜ tokenAnswer t ≡ found (T.Quoted (record { start = next; len = 0 })) next ⌝ }
 {
-    let r = payload::read_id(bytes, at);
-    let ReadId::Got(id, next) = r else {
-        return ReadToken::Refused(r.refusal());
-    };
+    ReadToken::Got(
+        Token::Quoted(Text {
+            start: next,
+            len: 0,
+        }),
+        next,
+    )
+}
+
+// The token of an id that ends at a place. Reads that are compiled as calls get a slice of their own: the address of this one is then
+// nobody's, and it stays in registers.
+fn by_id(bytes: &[u8], id: LexemeId, next: usize) -> ReadToken
+    ensures { λ r. ⌜ tokenAnswer r ≡ placed tokenOf (readAt (payload (after (id .0))) (now (bytes .entry)) next) ⌝ }
+{
     let n = id.0;
     match n {
         number::EQUAL => ReadToken::Got(Token::Equal, next),
@@ -203,13 +215,7 @@ pub fn read_token(bytes: &[u8], at: usize) -> ReadToken
         number::BOOL => bool_token(payload::read_bool(bytes, next)),
         number::QUOTED => quoted_token(payload::read_string(bytes, next)),
         number::UNQUOTED | number::STR_SAV03 => unquoted_token(payload::read_string(bytes, next)),
-        number::EMPTY_STRING => ReadToken::Got(
-            Token::Quoted(Text {
-                start: next,
-                len: 0,
-            }),
-            next,
-        ),
+        number::EMPTY_STRING => empty_token(next),
         number::RGB => rgb_token(payload::read_rgb(&bytes[0..], next)),
         number::LOOKUP_U8 | number::LOOKUP_U8_ALT | number::LOOKUP_U8_SAV03 =>
             lookup_u8_token(payload::read_lookup_u8(bytes, next)),
@@ -229,4 +235,15 @@ pub fn read_token(bytes: &[u8], at: usize) -> ReadToken
         }
         _ => ReadToken::Got(Token::Id(n), next),
     }
+}
+
+// The token at a place, and the place after it.
+pub fn read_token(bytes: &[u8], at: usize) -> ReadToken
+    ensures { λ r. ⌜ tokenAnswer r ≡ tokenAt (now (bytes .entry)) at ⌝ }
+{
+    let r = payload::read_id(bytes, at);
+    let ReadId::Got(id, next) = r else {
+        return ReadToken::Refused(r.refusal());
+    };
+    by_id(bytes, id, next)
 }

@@ -55,33 +55,33 @@ alone-requires-4 c κs = search needs
 slow-requires : tie.Need-slow-requires
 slow-requires c κs = search needs
 
-copy-requires-8 : tie.Need-copy-requires-8
-copy-requires-8 c κs = search needs
+lookup-requires : tie.Need-lookup-requires
+lookup-requires c κs = search needs
 
-copy-requires-9 : tie.Need-copy-requires-9
-copy-requires-9 c κs = search needs
+lookup-requires-2 : tie.Need-lookup-requires-2
+lookup-requires-2 c κs = search needs
 
-copy-requires-10 : tie.Need-copy-requires-10
-copy-requires-10 c κs = search needs
+lookup-requires-3 : tie.Need-lookup-requires-3
+lookup-requires-3 c κs = search needs
 
-copy-requires-11 : tie.Need-copy-requires-11
-copy-requires-11 c κs = search needs
+lookup-requires-4 : tie.Need-lookup-requires-4
+lookup-requires-4 c κs = search needs
 
-sub-compact : tie.Need-sub-compact
+sub-width : tie.Need-sub-width
 unfolding entries table
-sub-compact c = range-from _ (c .before .before .match .rest) (c .before .if1 .left)
+sub-width c = range-from _ (c .before .before .match .rest) (c .before .if1 .left)
 
-cast-compact : tie.Need-cast-compact
-cast-compact c = narrow _ 0x0d47 (c .if2 .taken)
+cast-width : tie.Need-cast-width
+cast-width c = narrow _ 0x0d47 (c .if2 .taken)
 
 compact-requires : tie.Need-compact-requires
 compact-requires c κs = (at-most-7 _ 0x0d47 (c .if2 .taken), c .before .before .before .before .pre .0)
 
-sub-compact-2 : tie.Need-sub-compact-2
-sub-compact-2 c = search needs
+sub-width-2 : tie.Need-sub-width-2
+sub-width-2 c = search needs
 
-cast-compact-2 : tie.Need-cast-compact-2
-cast-compact-2 c = narrow _ 0x0d4e (c .if3 .taken)
+cast-width-2 : tie.Need-cast-width-2
+cast-width-2 c = narrow _ 0x0d4e (c .if3 .taken)
 
 compact-requires-2 : tie.Need-compact-requires-2
 compact-requires-2 c κs = (at-most-7 _ 0x0d4e (c .if3 .taken), c .before .before .before .before .before .pre .0)
@@ -190,25 +190,25 @@ returns-15 : tie.Need-returns-15
 returns-15 c =
     let a = c .before .before .before in
     let r : Ready (a .args .window .now) (a .args .held) = record { bytes = c .before .before .shared-slice-known .given; long = a .pre .0; eight = search needs } in
-    arm-by (a .args .window .now) (a .args .held) (a .args .id .0) (c .copy8 .ensures) (lookup1-at (c .before .match .keys15)) (lookup-arm r 1 (lit≤ tt))
+    arm-by (a .args .window .now) (a .args .held) (a .args .id .0) (c .lookup .ensures) (lookup1-at (c .before .match .keys15)) (lookup-arm r 1 (lit≤ tt))
 
 returns-16 : tie.Need-returns-16
 returns-16 c =
     let a = c .before .before .before in
     let r : Ready (a .args .window .now) (a .args .held) = record { bytes = c .before .before .shared-slice-known .given; long = a .pre .0; eight = search needs } in
-    arm-by (a .args .window .now) (a .args .held) (a .args .id .0) (c .copy9 .ensures) (lookup2-at (c .before .match .keys16)) (lookup-arm r 2 (lit≤ tt))
+    arm-by (a .args .window .now) (a .args .held) (a .args .id .0) (c .lookup2 .ensures) (lookup2-at (c .before .match .keys16)) (lookup-arm r 2 (lit≤ tt))
 
 returns-17 : tie.Need-returns-17
 returns-17 c =
     let a = c .before .before .before in
     let r : Ready (a .args .window .now) (a .args .held) = record { bytes = c .before .before .shared-slice-known .given; long = a .pre .0; eight = search needs } in
-    arm-by (a .args .window .now) (a .args .held) (a .args .id .0) (c .copy10 .ensures) (lookup3-at (c .before .match .keys17)) (lookup-arm r 3 (lit≤ tt))
+    arm-by (a .args .window .now) (a .args .held) (a .args .id .0) (c .lookup3 .ensures) (lookup3-at (c .before .match .keys17)) (lookup-arm r 3 (lit≤ tt))
 
 returns-18 : tie.Need-returns-18
 returns-18 c =
     let a = c .before .before .before in
     let r : Ready (a .args .window .now) (a .args .held) = record { bytes = c .before .before .shared-slice-known .given; long = a .pre .0; eight = search needs } in
-    arm-by (a .args .window .now) (a .args .held) (a .args .id .0) (c .copy11 .ensures) (lookup4-at (c .before .match .keys18)) (lookup-arm r 4 (lit≤ tt))
+    arm-by (a .args .window .now) (a .args .held) (a .args .id .0) (c .lookup4 .ensures) (lookup4-at (c .before .match .keys18)) (lookup-arm r 4 (lit≤ tt))
 
 returns-19 : tie.Need-returns-19
 unfolding entries table
@@ -249,15 +249,15 @@ by-id-spec =
     string-requires-2
     alone-requires-4
     slow-requires
-    copy-requires-8
-    copy-requires-9
-    copy-requires-10
-    copy-requires-11
-    sub-compact
-    cast-compact
+    lookup-requires
+    lookup-requires-2
+    lookup-requires-3
+    lookup-requires-4
+    sub-width
+    cast-width
     compact-requires
-    sub-compact-2
-    cast-compact-2
+    sub-width-2
+    cast-width-2
     compact-requires-2
     named-requires
     returns

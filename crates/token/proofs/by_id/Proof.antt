@@ -1,0 +1,344 @@
+-- `token::by_id` meets its contract: an arm knows which entry of the table its number is in, and the default that none has it. Assumes nothing.
+use Prim.Native.Nat.{_-_}
+use mathlib.Core.Path.{refl, ap, _∙_}
+use mathlib.Core.Bool.{true, false, not}
+use lib.Dec.{eqb}
+use mir.Syntax.{w32, w64}
+use mir.Val.{toZ}
+use Rattle.form.specs.Values as F
+use native.Mathlib.Omega.{arith}
+use Rattle.form.specs.Table.{table, entries, find, orPlain, after}
+use Rattle.form.proofs.Lookups.{unquoted-at, lookup1-at, lookup2-at, lookup3-at, lookup4-at, compact-at, negated-at, plain-below, plain-above, range-from}
+use Rattle.token.specs.Tokens.{tokenOf}
+use Rattle.token.specs.declared.Token.the-variants as T
+use Rattle.token.proofs.Laws.{by-entry, number-at, through-at, text-at, colour-at, compact-from, nothing-at, empty-at, compact-is}
+use borrow.Rule.Slice.PartAt.{part-to-end}
+use borrow.Author.Needs.{needs}
+use Rattle.token.proofs.by_id.Statement.{statement}
+use Rattle.token.proofs.by_id.Tie as tie
+
+read-u32-requires : tie.Need-read-u32-requires
+read-u32-requires c κs = search needs
+
+u32-token-requires : tie.Need-u32-token-requires
+u32-token-requires c κs = search needs
+
+read-i32-requires : tie.Need-read-i32-requires
+read-i32-requires c κs = search needs
+
+i32-token-requires : tie.Need-i32-token-requires
+i32-token-requires c κs = search needs
+
+read-f32-requires : tie.Need-read-f32-requires
+read-f32-requires c κs = search needs
+
+f32-token-requires : tie.Need-f32-token-requires
+f32-token-requires c κs = search needs
+
+sub-read-u64 : tie.Need-sub-read-u64
+sub-read-u64 c = search needs
+
+part-read-u64-start : tie.Need-part-read-u64-start
+part-read-u64-start c = search needs
+
+part-read-u64-end : tie.Need-part-read-u64-end
+part-read-u64-end c = search needs
+
+read-u64-requires : tie.Need-read-u64-requires
+read-u64-requires c κs = search needs
+
+u64-token-requires : tie.Need-u64-token-requires
+u64-token-requires c κs = search needs
+
+sub-read-i64 : tie.Need-sub-read-i64
+sub-read-i64 c = search needs
+
+part-read-i64-start : tie.Need-part-read-i64-start
+part-read-i64-start c = search needs
+
+part-read-i64-end : tie.Need-part-read-i64-end
+part-read-i64-end c = search needs
+
+read-i64-requires : tie.Need-read-i64-requires
+read-i64-requires c κs = search needs
+
+i64-token-requires : tie.Need-i64-token-requires
+i64-token-requires c κs = search needs
+
+sub-read-f64 : tie.Need-sub-read-f64
+sub-read-f64 c = search needs
+
+part-read-f64-start : tie.Need-part-read-f64-start
+part-read-f64-start c = search needs
+
+part-read-f64-end : tie.Need-part-read-f64-end
+part-read-f64-end c = search needs
+
+read-f64-requires : tie.Need-read-f64-requires
+read-f64-requires c κs = search needs
+
+f64-token-requires : tie.Need-f64-token-requires
+f64-token-requires c κs = search needs
+
+read-bool-requires : tie.Need-read-bool-requires
+read-bool-requires c κs = search needs
+
+bool-token-requires : tie.Need-bool-token-requires
+bool-token-requires c κs = search needs
+
+read-string-requires : tie.Need-read-string-requires
+read-string-requires c κs = search needs
+
+quoted-token-requires : tie.Need-quoted-token-requires
+quoted-token-requires c κs = search needs
+
+read-string-requires-2 : tie.Need-read-string-requires-2
+read-string-requires-2 c κs = search needs
+
+unquoted-token-requires : tie.Need-unquoted-token-requires
+unquoted-token-requires c κs = search needs
+
+empty-token-requires : tie.Need-empty-token-requires
+empty-token-requires c κs = search needs
+
+sub-read-rgb : tie.Need-sub-read-rgb
+sub-read-rgb c = search needs
+
+part-read-rgb-start : tie.Need-part-read-rgb-start
+part-read-rgb-start c = search needs
+
+part-read-rgb-end : tie.Need-part-read-rgb-end
+part-read-rgb-end c = search needs
+
+read-rgb-requires : tie.Need-read-rgb-requires
+read-rgb-requires c κs = search needs
+
+rgb-token-requires : tie.Need-rgb-token-requires
+rgb-token-requires c κs = search needs
+
+read-lookup-u8-requires : tie.Need-read-lookup-u8-requires
+read-lookup-u8-requires c κs = search needs
+
+lookup-u8-token-requires : tie.Need-lookup-u8-token-requires
+lookup-u8-token-requires c κs = search needs
+
+read-lookup-u16-requires : tie.Need-read-lookup-u16-requires
+read-lookup-u16-requires c κs = search needs
+
+lookup-u16-token-requires : tie.Need-lookup-u16-token-requires
+lookup-u16-token-requires c κs = search needs
+
+read-lookup-u24-requires : tie.Need-read-lookup-u24-requires
+read-lookup-u24-requires c κs = search needs
+
+lookup-token-requires : tie.Need-lookup-token-requires
+lookup-token-requires c κs = search needs
+
+read-lookup-u32-requires : tie.Need-read-lookup-u32-requires
+read-lookup-u32-requires c κs = search needs
+
+lookup-token-requires-2 : tie.Need-lookup-token-requires-2
+lookup-token-requires-2 c κs = search needs
+
+sub-width : tie.Need-sub-width
+unfolding entries table
+sub-width c = omega (arith, range-from _ (c .before .before .match .rest) (c .before .if1 .left))
+
+cast-width : tie.Need-cast-width
+cast-width c = omega (arith, c .if2 .taken)
+
+read-compact-f64-requires : tie.Need-read-compact-f64-requires
+read-compact-f64-requires c κs = search needs
+
+f64-token-requires-2 : tie.Need-f64-token-requires-2
+f64-token-requires-2 c κs = search needs
+
+sub-width-2 : tie.Need-sub-width-2
+sub-width-2 c = search needs
+
+cast-width-2 : tie.Need-cast-width-2
+cast-width-2 c = omega (arith, c .if3 .taken)
+
+read-compact-f64-requires-2 : tie.Need-read-compact-f64-requires-2
+read-compact-f64-requires-2 c κs = search needs
+
+f64-token-requires-3 : tie.Need-f64-token-requires-3
+f64-token-requires-3 c κs = search needs
+
+returns : tie.Need-returns
+unfolding after orPlain find entries table tokenOf
+returns c = by-entry _ _ (ap after (c .match .keys1)) (nothing-at _ _ _)
+
+returns-2 : tie.Need-returns-2
+unfolding after orPlain find entries table tokenOf
+returns-2 c = by-entry _ _ (ap after (c .match .keys2)) (nothing-at _ _ _)
+
+returns-3 : tie.Need-returns-3
+unfolding after orPlain find entries table tokenOf
+returns-3 c = by-entry _ _ (ap after (c .match .keys3)) (nothing-at _ _ _)
+
+returns-4 : tie.Need-returns-4
+unfolding after orPlain find entries table tokenOf
+returns-4 c = by-entry _ _ (ap after (c .before .before .match .keys4)) (number-at _ _ 4 F.U32 (c .before .read-u32 .ensures) (c .u32-token .ensures))
+
+returns-5 : tie.Need-returns-5
+unfolding after orPlain find entries table tokenOf
+returns-5 c = by-entry _ _ (ap after (c .before .before .match .keys5)) (through-at _ _ 4 (toZ w32) F.I32 (c .before .read-i32 .ensures) (c .i32-token .ensures))
+
+returns-6 : tie.Need-returns-6
+unfolding after orPlain find entries table tokenOf
+returns-6 c = by-entry _ _ (ap after (c .before .before .match .keys6)) (number-at _ _ 4 F.F32 (c .before .read-f32 .ensures) (c .f32-token .ensures))
+
+returns-7 : tie.Need-returns-7
+unfolding after orPlain find entries table tokenOf
+returns-7 c =
+    by-entry _ _ (ap after (c .before .before .before .match .keys7))
+    (number-at _ _ 8 F.U64 (rw (part-to-end (c .before .before .before .before .before .args .bytes .now) 0) at (c .before .read-u64 .ensures)) (c .u64-token .ensures))
+
+returns-8 : tie.Need-returns-8
+unfolding after orPlain find entries table tokenOf
+returns-8 c =
+    by-entry _ _ (ap after (c .before .before .before .match .keys8))
+    (through-at _ _ 8 (toZ w64) F.I64 (rw (part-to-end (c .before .before .before .before .before .args .bytes .now) 0) at (c .before .read-i64 .ensures)) (c .i64-token .ensures))
+
+returns-9 : tie.Need-returns-9
+unfolding after orPlain find entries table tokenOf
+returns-9 c =
+    by-entry _ _ (ap after (c .before .before .before .match .keys9))
+    (number-at _ _ 8 F.F64 (rw (part-to-end (c .before .before .before .before .before .args .bytes .now) 0) at (c .before .read-f64 .ensures)) (c .f64-token .ensures))
+
+returns-10 : tie.Need-returns-10
+unfolding after orPlain find entries table tokenOf
+returns-10 c = by-entry _ _ (ap after (c .before .before .match .keys10)) (through-at _ _ 1 (λ n. not (eqb n 0)) F.Truth (c .before .read-bool .ensures) (c .bool-token .ensures))
+
+returns-11 : tie.Need-returns-11
+unfolding after orPlain find entries table tokenOf
+returns-11 c = by-entry _ _ (ap after (c .before .before .match .keys11)) (text-at _ _ F.Quoted T.Quoted (λ _ _. refl) (c .before .read-string .ensures) (c .quoted-token .ensures))
+
+returns-12 : tie.Need-returns-12
+unfolding tokenOf
+returns-12 c = by-entry _ _ (unquoted-at (c .before .before .match .keys12)) (text-at _ _ F.Unquoted T.Unquoted (λ _ _. refl) (c .before .read-string2 .ensures) (c .unquoted-token .ensures))
+
+returns-13 : tie.Need-returns-13
+unfolding after orPlain find entries table
+returns-13 c = by-entry _ _ (ap after (c .before .match .keys13)) (empty-at _ _ (c .empty-token .ensures))
+
+returns-14 : tie.Need-returns-14
+unfolding after orPlain find entries table tokenOf
+returns-14 c =
+    by-entry _ _ (ap after (c .before .before .before .match .keys14))
+    (colour-at _ _ (rw (part-to-end (c .before .before .before .before .before .args .bytes .now) 0) at (c .before .read-rgb .ensures)) (c .rgb-token .ensures))
+
+returns-15 : tie.Need-returns-15
+unfolding tokenOf
+returns-15 c = by-entry _ _ (lookup1-at (c .before .before .match .keys15)) (number-at _ _ 1 F.Lookup (c .before .read-lookup-u8 .ensures) (c .lookup-u8-token .ensures))
+
+returns-16 : tie.Need-returns-16
+unfolding tokenOf
+returns-16 c = by-entry _ _ (lookup2-at (c .before .before .match .keys16)) (number-at _ _ 2 F.Lookup (c .before .read-lookup-u16 .ensures) (c .lookup-u16-token .ensures))
+
+returns-17 : tie.Need-returns-17
+unfolding tokenOf
+returns-17 c = by-entry _ _ (lookup3-at (c .before .before .match .keys17)) (number-at _ _ 3 F.Lookup (c .before .read-lookup-u24 .ensures) (c .lookup-token .ensures))
+
+returns-18 : tie.Need-returns-18
+unfolding tokenOf
+returns-18 c = by-entry _ _ (lookup4-at (c .before .before .match .keys18)) (number-at _ _ 4 F.Lookup (c .before .read-lookup-u32 .ensures) (c .lookup-token2 .ensures))
+
+returns-19 : tie.Need-returns-19
+unfolding entries table tokenOf
+returns-19 c =
+    let a = c .before .before .before .before .before .before .args in
+    by-entry _ _ (compact-at _ (c .before .before .before .before .match .rest) (c .before .before .before .if1 .left) (c .before .before .if2 .taken) ∙ compact-is _ _ false (c .before .before .if2 .taken))
+    (compact-from (a .bytes .now) (a .next) (a .id .0 - 0x0d47) false (c .before .read-compact-f64 .ensures) (c .f64-token2 .ensures))
+
+returns-20 : tie.Need-returns-20
+unfolding entries table tokenOf
+returns-20 c =
+    let a = c .before .before .before .before .before .before .before .args in
+    by-entry _ _ (negated-at _ (c .before .before .before .before .before .match .rest) (c .before .before .before .if2 .left) (c .before .before .if3 .taken) ∙ compact-is _ _ true (c .before .before .if3 .taken))
+    (compact-from (a .bytes .now) (a .next) (a .id .0 - 0x0d4e) true (c .before .read-compact-f642 .ensures) (c .f64-token3 .ensures))
+
+returns-21 : tie.Need-returns-21
+unfolding entries table tokenOf
+returns-21 c = by-entry _ _ (plain-below _ (c .before .match .rest) (c .if1 .taken)) (nothing-at _ _ _)
+
+returns-22 : tie.Need-returns-22
+unfolding entries table tokenOf
+returns-22 c = by-entry _ _ (plain-above _ (c .before .before .before .match .rest) (c .if3 .left)) (nothing-at _ _ _)
+
+pub by-id-spec : {M : Type 1} → statement M
+by-id-spec =
+    tie.close
+    (tie.spec
+    read-u32-requires
+    u32-token-requires
+    read-i32-requires
+    i32-token-requires
+    read-f32-requires
+    f32-token-requires
+    sub-read-u64
+    part-read-u64-start
+    part-read-u64-end
+    read-u64-requires
+    u64-token-requires
+    sub-read-i64
+    part-read-i64-start
+    part-read-i64-end
+    read-i64-requires
+    i64-token-requires
+    sub-read-f64
+    part-read-f64-start
+    part-read-f64-end
+    read-f64-requires
+    f64-token-requires
+    read-bool-requires
+    bool-token-requires
+    read-string-requires
+    quoted-token-requires
+    read-string-requires-2
+    unquoted-token-requires
+    empty-token-requires
+    sub-read-rgb
+    part-read-rgb-start
+    part-read-rgb-end
+    read-rgb-requires
+    rgb-token-requires
+    read-lookup-u8-requires
+    lookup-u8-token-requires
+    read-lookup-u16-requires
+    lookup-u16-token-requires
+    read-lookup-u24-requires
+    lookup-token-requires
+    read-lookup-u32-requires
+    lookup-token-requires-2
+    sub-width
+    cast-width
+    read-compact-f64-requires
+    f64-token-requires-2
+    sub-width-2
+    cast-width-2
+    read-compact-f64-requires-2
+    f64-token-requires-3
+    returns
+    returns-2
+    returns-3
+    returns-4
+    returns-5
+    returns-6
+    returns-7
+    returns-8
+    returns-9
+    returns-10
+    returns-11
+    returns-12
+    returns-13
+    returns-14
+    returns-15
+    returns-16
+    returns-17
+    returns-18
+    returns-19
+    returns-20
+    returns-21
+    returns-22)
