@@ -1,8 +1,9 @@
 -- Tokens whose bytes are already their spelling. Assumes nothing.
-use Prim.Native.Nat.{ℕ, zero, suc, _+_, _^_, _≤_, _<_}
+use Prim.Native.Nat.{ℕ, zero, suc, _+_, _^_, _≤_, _<_, zero-le}
 use native.Mathlib.Omega.{arith}
 use mathlib.Core.Path.{_≡_, refl, sym, ap, _∙_}
 use mathlib.Core.Bool.{Bool, true, false, not, _&&_}
+use mathlib.Core.Option.{none, some}
 use mathlib.Core.List.{List, [], _∷_, _++_}
 use mathlib.Core.Logic.{inl, inr}
 use lib.ListN.{length, take, drop, length-drop}
@@ -12,15 +13,17 @@ use types.Run.{OneOf}
 use borrow.Author.Tests.{le-leb, lt-ltb, eqb-true, eq-eqb, ne-eqb}
 use mir.Syntax.{w32, w64}
 use mir.ValLaws.{ofZ-toZ}
-use Rattle.form.specs.Numbers.{le, leBytes, Bytes}
-use Rattle.form.specs.Values.{Value, U32, U64, F32, F64, Lookup, Quoted, Unquoted, signed32, signed64, nonzero, kind}
+use Rattle.form.specs.Numbers.{pick, le, leBytes, Bytes}
+use Rattle.form.specs.Values.{Value, U32, U64, F32, F64, Lookup, Quoted, Unquoted, Rgb, signed32, signed64, nonzero, kind}
 use Rattle.form.specs.Table.{Payload, number, text, colour, table, entries, find, orPlain, after, reserved}
-use Rattle.form.specs.Ids.{sample, alike, findId, idOf}
-use Rattle.form.specs.Readers.{found, further, andThen, mapped, _followed-by_, _giving_}
-use Rattle.form.specs.Reading.{next, num, string, payload, token}
-use Rattle.form.specs.Spelling.{tag, bit, body, spell, writable, wide}
+use Rattle.form.specs.Ids.{sample, alike, findId, idOf, OPEN, CLOSE, CHANNEL}
+use Rattle.form.specs.Refusals.{Fault}
+use Rattle.form.specs.Readers.{Reader, found, further, andThen, mapped, _followed-by_, _giving_, give, refuse}
+use Rattle.form.specs.Reading.{next, num, string, Channel, channel, withAlpha, ending, headed, judged, rgb, payload, token}
+use Rattle.form.specs.Spelling.{tag, spelledChannel, spelledAlpha, bit, body, spell, writable, wide}
 use Rattle.form.proofs.LittleEndian.{bytes-le, take-bytes, drop-bytes}
 use Rattle.form.proofs.Lookups.{plain-after}
+use Rattle.form.proofs.Found.{All, all-mapped, all-then, all-weaken, Next, next-found}
 use Rattle.form.proofs.Elsewhere.{both}
 use Rattle.form.proofs.Sound.{_&_}
 
@@ -42,6 +45,11 @@ pub record KeptText (i : ℕ) : Type 0 where
   pub is : after i ≡ text value
   pub keeps : (t : List ℕ) → Keeps i (leBytes 2 (length t) ++ t) (value t)
 
+-- a colour follows i, which is the id that spells it
+pub record KeptColour (i : ℕ) : Type 0 where
+  pub is : after i ≡ colour
+  pub keeps : i ≡ idOf colour
+
 -- ---- the token at the front of the bytes
 
 -- it is spelled by its n bytes
@@ -56,6 +64,108 @@ pub record Stands (s : List ℕ) (n : ℕ) : Type 0 where
 -- the bytes of a number are those that spell it
 number-same : (s : List ℕ) → Bytes s → (w : ℕ) → w ≤ length s → leBytes w (le (take w s)) ≡ take w s
 number-same s b w h = ap (λ (k : ℕ). leBytes k (le (take w s))) (sym (length-take-le w s h)) ∙ bytes-le (take w s) (take-bytes w s b)
+
+-- ---- readers of what is spelled by the bytes that it has
+
+-- Q holds of a and of n bytes at the front of s
+abbrev Front : {A : Type 0} → (A → List ℕ → Type 0) → List ℕ → A → ℕ → Type 0
+Front Q s a n = (n ≤ length s) × Q a (take n s)
+
+-- Q holds of whatever f finds and of the bytes that it took
+record Reads {A : Type 0} (Q : A → List ℕ → Type 0) (f : Reader A) : Type 0 where
+  of : (s : List ℕ) → Bytes s → All (Front Q s) (f s)
+
+-- what f finds is spelled by its bytes, and g goes on after them
+reads-then : {A B : Type 0} (spelt : A → List ℕ) {Q : B → List ℕ → Type 0} {f : Reader A} {g : A → Reader B} → Reads (λ a t. spelt a ≡ t) f
+    → ((a : A) → Reads (λ b t. Q b (spelt a ++ t)) (g a)) → Reads Q (f followed-by g)
+reads-then spelt {Q} {f} {g} h k = record {
+  of = λ s b.
+      all-then (Front (λ a t. spelt a ≡ t) s) (Front Q s) f g s (h .of s b)
+      (λ a n x. all-weaken (Front (λ c t. Q c (spelt a ++ t)) (drop n s)) (λ c m. Front Q s c (n + m)) (g a (drop n s)) (k a .of (drop n s) (drop-bytes n s b))
+      (λ c m y. (omega (arith, x .0, y .0, length-drop n s), rw (take-add n m s, ← x .1) (y .1))));
+}
+
+reads-pick : {A : Type 0} {Q : A → List ℕ → Type 0} (c : Bool) {f g : Reader A} → (c ≡ true → Reads Q f) → Reads Q g → Reads Q (pick c f g)
+reads-pick true h k = h refl
+reads-pick false h k = k
+
+reads-give : {A : Type 0} {Q : A → List ℕ → Type 0} (a : A) → Q a [] → Reads Q (give a)
+unfolding give
+reads-give a q = record { of = λ s b. (zero-le, q) }
+
+reads-refuse : {A : Type 0} {Q : A → List ℕ → Type 0} (why : Fault) → Reads Q (refuse why)
+unfolding refuse
+reads-refuse why = record { of = λ s b. tt }
+
+reads-num : (w : ℕ) → Reads (λ x t. leBytes w x ≡ t) (num w)
+unfolding num _giving_
+reads-num w = record {
+  of = λ s b.
+      all-mapped (Next w s) (Front (λ x t. leBytes w x ≡ t) s) le (next w s) (next-found w s)
+      (λ t n k. rw (k .count, k .is) (k .there, number-same s b w (k .there)));
+}
+
+-- ---- a colour
+
+abbrev spelt : Channel → List ℕ
+spelt c = leBytes 2 (c .tag) ++ leBytes 4 (c .value)
+
+reads-channel : Reads (λ c t. spelt c ≡ t) channel
+unfolding channel _giving_
+reads-channel =
+    reads-then (leBytes 2) (reads-num 2)
+    (λ i. record {
+      of = λ s b.
+          all-mapped (Front (λ x t. leBytes 4 x ≡ t) s) (Front (λ c t. spelt c ≡ leBytes 2 i ++ t) s) _ (num 4 s) (reads-num 4 .of s b)
+          (λ x n k. (k .0, ap (λ (t : List ℕ). leBytes 2 i ++ t) (k .1)));
+    })
+
+-- the value is spelled by a colour's id and these bytes
+abbrev Coloured : Value → List ℕ → Type 0
+Coloured v t = Keeps (idOf colour) t v
+
+-- where the first four ids are right, so is the fifth, or it is refused
+module _ (o : ℕ) (r g b : Channel) (h : headed o (r .tag) (g .tag) (b .tag) ≡ true) where
+  -- the bytes so far, and more
+  abbrev on : List ℕ → List ℕ
+  on t = leBytes 2 o ++ (spelt r ++ (spelt g ++ (spelt b ++ t)))
+
+  -- as they are spelled
+  abbrev right : List ℕ → List ℕ
+  right t = leBytes 2 OPEN ++ (spelledChannel (r .value) ++ (spelledChannel (g .value) ++ (spelledChannel (b .value) ++ t)))
+
+  on-right : (t : List ℕ) → on t ≡ right t
+  unfolding headed spelledChannel
+  on-right t =
+      let x = both _ (eqb (b .tag) CHANNEL) h in
+      let y = both _ (eqb (g .tag) CHANNEL) (x .0) in
+      let z = both _ (eqb (r .tag) CHANNEL) (y .0) in
+      rw (eqb-true o OPEN (z .0), eqb-true (r .tag) CHANNEL (z .1), eqb-true (g .tag) CHANNEL (y .1), eqb-true (b .tag) CHANNEL (x .1))
+
+  reads-alpha : (e : ℕ) → e ≡ CHANNEL → Reads (λ v t. Coloured v (on (leBytes 2 e ++ t))) (withAlpha (r .value) (g .value) (b .value))
+  unfolding withAlpha spell tag body leBytes spelledChannel spelledAlpha wide kind
+  reads-alpha e p =
+      reads-then (leBytes 4) (reads-num 4) (λ a.
+      reads-then (leBytes 2) (reads-num 2) (λ c.
+      reads-pick (eqb c CLOSE) (λ q. reads-give _ (rw (on-right, p, eqb-true c CLOSE q) (refl, refl))) (reads-refuse _)))
+
+  reads-ending : (e : ℕ) → Reads (λ v t. Coloured v (on (leBytes 2 e ++ t))) (ending e (r .value) (g .value) (b .value))
+  unfolding ending spell tag body leBytes spelledChannel spelledAlpha wide kind
+  reads-ending e =
+      reads-pick (eqb e CLOSE) (λ q. reads-give _ (rw (on-right, eqb-true e CLOSE q) (refl, refl)))
+      (reads-pick (eqb e CHANNEL) (λ q. reads-alpha e (eqb-true e CHANNEL q)) (reads-refuse _))
+
+reads-rgb : Reads Coloured rgb
+unfolding rgb judged
+reads-rgb =
+    reads-then (leBytes 2) (reads-num 2) (λ o.
+    reads-then spelt reads-channel (λ r.
+    reads-then spelt reads-channel (λ g.
+    reads-then spelt reads-channel (λ b.
+    reads-then (leBytes 2) (reads-num 2) (λ e.
+    reads-pick (headed o (r .tag) (g .tag) (b .tag)) (λ h. reads-ending o r g b h e) (reads-refuse _))))))
+
+-- ---- a token
 
 next-there : (n : ℕ) (s : List ℕ) → n ≤ length s → next n s ≡ found (take n s) n
 unfolding next
@@ -108,6 +218,19 @@ module _ (s : List ℕ) (b : Bytes s) (l : 2 ≤ length s) where
             k .keeps t .0
             ∙ rw (size, number-same s b 2 l, number-same r (drop-bytes 2 s b) 2 h) (sym (take-add 2 (2 + n) s ∙ ap (λ (x : List ℕ). take 2 s ++ x) (take-add 2 n r)));
         narrow = k .keeps t .1;
+      }
+
+  pub colour-stands : KeptColour i → {v : Value} {n : ℕ} → rgb r ≡ found v n → Stands s (2 + n)
+  unfolding payload further
+  colour-stands k {v} {n} e =
+      let q : (n ≤ length r) × Coloured v (take n r) = rw e at (reads-rgb .of r (drop-bytes 2 s b)) in
+      record {
+        value = v;
+        some = omega arith;
+        there = omega (arith, q .0, length-drop 2 s);
+        read = by-id (k .is) ∙ rw e;
+        same = q .1 .0 ∙ rw (← k .keeps, number-same s b 2 l) (sym (take-add 2 n s));
+        narrow = q .1 .1;
       }
 
 -- ---- the ids, as the arms of a `match` have them: what holds of each holds of a number that is one of them
@@ -185,6 +308,13 @@ texts-kept =
     record { value = Quoted; is = refl; keeps = λ t. (refl, refl) }
     & record { value = Unquoted; is = refl; keeps = λ t. (refl, refl) }
     & tt
+
+abbrev pub colours : List ℕ
+colours = 0x0243 ∷ []
+
+pub colours-kept : OfEach KeptColour colours
+unfolding after find entries table orPlain kind idOf findId alike sample
+colours-kept = record { is = refl; keeps = refl } & tt
 
 -- ---- ids that stand alone and are spelled so: the test, which plain ids pass
 

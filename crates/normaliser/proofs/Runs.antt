@@ -14,13 +14,13 @@ use mir.Val.{Fits}
 use Rattle.form.specs.Numbers.{le}
 use Rattle.form.specs.Values.{Value}
 use Rattle.form.specs.Table.{entries}
-use Rattle.form.specs.Readers.{Answer, found, refused, andThen, mapped, placed, at}
-use Rattle.form.specs.Reading.{next as nextOf, num, string}
+use Rattle.form.specs.Readers.{Answer, Reader, found, refused, further, andThen, mapped, placed, at}
+use Rattle.form.specs.Reading.{next as nextOf, num, string, rgb}
 use Rattle.form.specs.Saves.{step}
 use Rattle.form.proofs.LittleEndian.{drop-bytes, bytes-all}
 use Rattle.form.proofs.Places.{took, num-there, at-giving, string-then}
 use Rattle.form.proofs.Elsewhere.{eachId, listed, MissedAll, elsewhere}
-use Rattle.form.proofs.Standing.{KeptNumber, KeptText, Stands, number-stands, text-stands, alone, plain-alone, alone-kept}
+use Rattle.form.proofs.Standing.{KeptNumber, KeptText, KeptColour, Stands, number-stands, text-stands, colour-stands, alone, plain-alone, alone-kept}
 use Rattle.form.proofs.Walking.{from, from-step}
 use Rattle.writer.proofs.Fitting.{never}
 use Rattle.normaliser.specs.declared.standing.Stood.{Stood}
@@ -32,11 +32,11 @@ use Rattle.normaliser.proofs.Parts.{gives-then, spells-then, spells-non
 -- ---- what the leaves answer
 
 -- a text that was read, whatever became of it
-pub text-read : {B : Type 0} (f : ℕ → List ℕ → B) (s : List ℕ) (p : ℕ) {b : B} {q : ℕ} → placed f (at string s p) ≡ found b q → Within s p (To q)
+pub text-read : {B : Type 0} (f : ℕ → List ℕ → B) (s : List ℕ) (p : ℕ) {b : B} {q : ℕ} → placed f (at string s p) ≡ found b q → Within string s p (To q)
 unfolding placed
 text-read f s p {b} {q} e = go (at string s p) refl e
   where
-    go : (x : Answer (List ℕ)) → at string s p ≡ x → placed f x ≡ found b q → Within s p (To q)
+    go : (x : Answer (List ℕ)) → at string s p ≡ x → placed f x ≡ found b q → Within string s p (To q)
     go (found t m) r e = let k : m ≡ q = cc in (t, r ∙ ap (found t) k)
     go (refused why) r e = never (cc)
 
@@ -60,6 +60,20 @@ text-length s p {t} {q} e = go (at (num 2) s p) refl (sym (string-then s p) ∙ 
           ends = omega (arith, a .value, a .next, c .next);
         }
     go (refused why) x y = never (cc)
+
+-- where a reading that began at a place ends
+record Ended {A : Type 0} (f : Reader A) (s : List ℕ) (p : ℕ) (a : A) (q : ℕ) : Type 0 where
+  size : ℕ
+  read : f (drop p s) ≡ found a size
+  ends : q ≡ p + size
+
+ended : {A : Type 0} (f : Reader A) (s : List ℕ) (p : ℕ) {a : A} {q : ℕ} → at f s p ≡ found a q → Ended f s p a q
+unfolding at further
+ended f s p {a} {q} e = go (f (drop p s)) refl e
+  where
+    go : (x : Answer _) → f (drop p s) ≡ x → further p x ≡ found a q → Ended f s p a q
+    go (found c m) r e = let k : c ≡ a = cc in record { size = m; read = r ∙ ap (λ z. found z m) k; ends = cc }
+    go (refused why) r e = never (cc)
 
 -- ---- a token
 
@@ -96,13 +110,22 @@ module _ (s : List ℕ) (b : (j : ℕ) → Fits w8 (getD s j 0)) (p : ℕ) where
         (spelled (number-stands (drop p s) (drop-bytes p s (bytes-all s b)) (a .there) (rw (a .value) at k) (rw after at (c .there)) (rw (c .value, after) at (h .1))))
 
     -- by the text
-    pub text-arm : KeptText i → (r : Stood) → Within s next r → Spelled s p r
+    pub text-arm : KeptText i → (r : Stood) → Within string s next r → Spelled s p r
     text-arm k Otherwise h = tt
     text-arm k (To q) h =
         let a = took 2 s p e in
         let c = text-length s next (h .1) in
         let ends : q ≡ p + (2 + (2 + le (take 2 (drop 2 (drop p s))))) = rw after at (c .ends) ∙ omega (arith, a .next) in
         rw ends (spelled (text-stands (drop p s) (drop-bytes p s (bytes-all s b)) (a .there) (rw (a .value) at k) (rw after at (c .there)) (rw after at (c .fits))))
+
+    -- by the colour
+    pub colour-arm : KeptColour i → (r : Stood) → Within rgb s next r → Spelled s p r
+    colour-arm k Otherwise h = tt
+    colour-arm k (To q) h =
+        let a = took 2 s p e in
+        let c = ended rgb s next (h .1) in
+        let on : q ≡ p + (2 + c .size) = omega (arith, a .next, c .ends) in
+        rw on (spelled (colour-stands (drop p s) (drop-bytes p s (bytes-all s b)) (a .there) (rw (a .value) at k) (rw after at (c .read))))
 
     -- by nothing
     pub alone-arm : alone i ≡ true → Spelled s p (To next)

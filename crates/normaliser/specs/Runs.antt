@@ -2,8 +2,8 @@
 use Prim.Native.Nat.{ℕ, _<_}
 use mathlib.Core.Path.{_≡_}
 use mathlib.Core.List.{List}
-use Rattle.form.specs.Readers.{found, at}
-use Rattle.form.specs.Reading.{num, string}
+use Rattle.form.specs.Readers.{Reader, found, at}
+use Rattle.form.specs.Reading.{num}
 use Rattle.normaliser.specs.declared.standing.Stood.{Stood}
 use Rattle.normaliser.specs.declared.standing.Stood.the-variants.{To, Otherwise}
 use Rattle.normaliser.specs.Parts.{Spells, between}
@@ -13,10 +13,10 @@ abbrev pub Below : ℕ → ℕ → List ℕ → ℕ → Stood → Type 0
 Below m w s p (To q) = (x : ℕ) × (x < m) × (at (num w) s p ≡ found x q)
 Below m w s p Otherwise = Unit {0}
 
--- a text
-abbrev pub Within : List ℕ → ℕ → Stood → Type 0
-Within s p (To q) = (t : List ℕ) × (at string s p ≡ found t q)
-Within s p Otherwise = Unit {0}
+-- what f reads
+abbrev pub Within : {A : Type 0} → Reader A → List ℕ → ℕ → Stood → Type 0
+Within {A} f s p (To q) = (a : A) × (at f s p ≡ found a q)
+Within f s p Otherwise = Unit {0}
 
 -- a token, which is spelled by the bytes that it has
 abbrev pub Spelled : List ℕ → ℕ → Stood → Type 0

@@ -1,10 +1,12 @@
 // Tokens that stand in the save as they are spelled: runs of them need no respelling.
 ghost use Prim.Native.Nat.{_^_, _≤_};
 ghost use lib.ListN.{length};
+ghost use Rattle.form.specs.Reading.{string, rgb};
 ghost use Rattle.normaliser.specs.Parts.{Spells, between};
 ghost use Rattle.normaliser.specs.Runs.{Below, Within, Spelled};
 use lexeme::number;
 use payload::ReadId;
+use payload::ReadRgb;
 use payload::ReadString;
 use payload::ReadU8;
 
@@ -39,10 +41,21 @@ fn truth(bytes: &[u8], at: usize) -> Stood
 }
 
 fn string(bytes: &[u8], at: usize) -> Stood
-    ensures { λ r. ⌜ Within (now (bytes .entry)) at r ⌝ }
+    ensures { λ r. ⌜ Within string (now (bytes .entry)) at r ⌝ }
 {
     let text = payload::read_string(bytes, at);
     let ReadString::Got(_, next) = text else {
+        return Stood::Otherwise;
+    };
+    Stood::To(next)
+}
+
+// A colour that reads is spelled so: its ids are judged there. The read is compiled as a call, and gets a slice of its own, as in `token`.
+fn colour(bytes: &[u8], at: usize) -> Stood
+    ensures { λ r. ⌜ Within rgb (now (bytes .entry)) at r ⌝ }
+{
+    let read = payload::read_rgb(&bytes[0..], at);
+    let ReadRgb::Got(_, next) = read else {
         return Stood::Otherwise;
     };
     Stood::To(next)
@@ -65,7 +78,7 @@ fn stands(bytes: &[u8], at: usize) -> Stood
         number::F64 | number::U64 | number::I64 => fixed(bytes, next, 8),
         number::LOOKUP_U24 => fixed(bytes, next, 3),
         number::BOOL => truth(bytes, next),
-        number::RGB => Stood::Otherwise,
+        number::RGB => colour(bytes, next),
         _ => {
             if n < number::LOOKUP_U16 {
                 return Stood::To(next);

@@ -7,15 +7,12 @@ use Rattle.form.specs.Values.{kind}
 use Rattle.form.specs.Table.{table, entries, find, orPlain, after}
 use Rattle.form.specs.Ids.{sample, alike, findId, idOf}
 use Rattle.form.specs.Spelling.{tag, body, writable, wide}
-use Rattle.form.proofs.Standing.{KeptNumber, KeptText, of-one, Kept, fours, fours-kept, floats, floats-kept, eights, eights-kept, threes, threes-kept, truths, truths-kept, texts, texts-kept}
+use Rattle.form.proofs.Standing.{KeptNumber, KeptText, KeptColour, of-one, Kept, fours, fours-kept, floats, floats-kept, eights, eights-kept, threes, threes-kept, truths, truths-kept, texts, texts-kept, colours, colours-kept}
 use Rattle.payload.specs.Answers.{idAnswer}
 use Rattle.payload.proofs.Laws.{gotOf}
-use Rattle.normaliser.proofs.Runs.{number-arm, text-arm, alone-arm, alone-below, alone-above}
+use Rattle.normaliser.proofs.Runs.{number-arm, text-arm, colour-arm, alone-arm, alone-below, alone-above}
 use Rattle.normaliser.proofs.standing.stands.Statement.{statement}
 use Rattle.normaliser.proofs.standing.stands.Tie as tie
-
-abbrev colours : List ℕ
-colours = 0x0243 ∷ []
 
 abbrev arms : List (List ℕ)
 arms = texts ∷ fours ∷ floats ∷ eights ∷ threes ∷ truths ∷ colours ∷ []
@@ -49,6 +46,9 @@ fixed-requires-4 c κs = search needs
 
 truth-requires : tie.Need-truth-requires
 truth-requires c κs = search needs
+
+colour-requires : tie.Need-colour-requires
+colour-requires c κs = search needs
 
 returns-2 : tie.Need-returns-2
 unfolding after orPlain find entries table tag body wide kind writable idOf findId alike sample
@@ -93,7 +93,9 @@ returns-9 c =
     number-arm (a .bytes .now) (c .before .before .before .before .before .before .shared-slice-known .given) (a .at) (gotOf idAnswer (c .before .before .before .before .before .read-id .ensures) (c .before .before .before .read .given .1)) (of-one (KeptNumber 1 2) truths truths-kept (c .before .match2 .keys6)) (c .truth .result) (c .truth .ensures)
 
 returns-10 : tie.Need-returns-10
-returns-10 c = tt
+returns-10 c =
+    let a = c .before .before .before .before .before .before .before .args in
+    colour-arm (a .bytes .now) (c .before .before .before .before .before .before .shared-slice-known .given) (a .at) (gotOf idAnswer (c .before .before .before .before .before .read-id .ensures) (c .before .before .before .read .given .1)) (of-one KeptColour colours colours-kept (c .before .match2 .keys7)) (c .colour .result) (c .colour .ensures)
 
 returns-11 : tie.Need-returns-11
 returns-11 c = tt
@@ -112,6 +114,7 @@ stands-spec =
     fixed-requires-3
     fixed-requires-4
     truth-requires
+    colour-requires
     returns-2
     returns-3
     returns-4
