@@ -1,14 +1,14 @@
 -- Laws of the table of ids: what holds of each entry holds of what follows any id; and an id in the form in which an arm of a
 -- `match` knows it. Assumes nothing.
-use Prim.Native.Nat.{ℕ, suc, _-_, _≤_, _<_}
+use Prim.Native.Nat.{ℕ, zero, suc, _+_, _-_, _≤_, _<_}
 use native.Mathlib.Omega.{arith}
-use mathlib.Core.Path.{_≡_, refl, sym, ap, _∙_}
+use mathlib.Core.Path.{_≡_, refl, sym, ap, subst, _∙_}
 use mathlib.Core.Bool.{Bool, true, false, _&&_}
 use mathlib.Core.Option.{Option, none, some}
 use mathlib.Core.List.{List, [], _∷_}
 use mathlib.Core.Logic.{inl, inr}
-use lib.Dec.{T, leb, leb→le}
-use borrow.Author.Tests.{le-leb, lt-leb, ne-eqb}
+use lib.Dec.{T, eqb, leb, leb→le}
+use borrow.Author.Tests.{eqb-true, eqb-false, le-leb, lt-leb, ne-eqb}
 use store.Enc.{and-l, and-r}
 use types.Run.{OneOf}
 use Rattle.form.specs.Numbers.{pick, negated}
@@ -142,22 +142,39 @@ range-from x m h =
     let e = in-ranges x m in
     step x 0x0d46 e refl refl (step x 0x0d45 e refl refl (step x 0x0d44 e refl refl (step x 0x0d43 e refl refl (step x 0x0d42 e refl refl (step x 0x0d41 e refl refl (step x 0x0d40 e refl refl (step x 0x0d3f e refl refl (step x 0x0d3e e refl refl h))))))))
 
+-- ---- the ranges
+
+-- P holds of n numbers from i on
+abbrev Through : (ℕ → Type 0) → ℕ → ℕ → Type 0
+Through P zero i = Unit {0}
+Through P (suc n) i = P i × Through P n (i + 1)
+
+-- so it holds of a number among them
+among-them : (P : ℕ → Type 0) (n i : ℕ) → Through P n i → (x : ℕ) → i ≤ x → x < i + n → P x
+among-them P zero i h x l u = absurd (omega arith)
+among-them P (suc n) i h x l u = go (eqb i x) refl (λ ne. among-them P n (i + 1) (h .1) x (omega (arith, ne)) (omega arith))
+  where
+    go : (b : Bool) → eqb i x ≡ b → ((i ≡ x → ⊥) → P x) → P x
+    go true q f = subst P (eqb-true i x q) (h .0)
+    go false q f = f (eqb-false i x q)
+
+pub compact-in : (x : ℕ) → 0x0d47 ≤ x → x < 0x0d4f → after x ≡ number (x - 0x0d47) F64
+unfolding after find entries table orPlain
+compact-in x lo hi =
+    among-them (λ i. after i ≡ number (i - 0x0d47) F64) 8 0x0d47 (refl, (refl, (refl, (refl, (refl, (refl, (refl, (refl, tt)))))))) x lo hi
+
+pub negated-at : (x : ℕ) → 0x0d4f ≤ x → x < 0x0d56 → after x ≡ number (x - 0x0d4e) (λ n. F64 (negated n))
+unfolding after find entries table orPlain
+negated-at x lo hi =
+    among-them (λ i. after i ≡ number (i - 0x0d4e) (λ n. F64 (negated n))) 7 0x0d4f (refl, (refl, (refl, (refl, (refl, (refl, (refl, tt))))))) x lo hi
+
 module _ (x : ℕ) (m : Missed (Unit {0}) entries x) where
   by-range : (o : Option Payload) → find (ranges entries) x ≡ o → after x ≡ orPlain x o
   unfolding after
   by-range o e = ap (orPlain x) (in-ranges x m ∙ e)
 
   pub compact-at : 0x0d3e ≤ x → x < 0x0d4f → after x ≡ number (x - 0x0d47) F64
-  unfolding find entries table orPlain
-  compact-at lo hi =
-      let l = range-from x m lo in
-      by-range (some (number (x - 0x0d47) F64)) (simp (le-leb 0x0d47 x l, le-leb x 0x0d4e (omega arith)))
-
-  pub negated-at : 0x0d4f ≤ x → x < 0x0d56 → after x ≡ number (x - 0x0d4e) (λ n. F64 (negated n))
-  unfolding find entries table orPlain
-  negated-at lo hi =
-      by-range (some (number (x - 0x0d4e) (λ n. F64 (negated n))))
-      (simp (le-leb 0x0d47 x (omega arith), lt-leb x 0x0d4e lo, le-leb 0x0d4f x lo, le-leb x 0x0d55 (omega arith)))
+  compact-at lo hi = compact-in x (range-from x m lo) hi
 
   pub plain-below : x < 0x0d3e → after x ≡ nothing (Id x)
   unfolding find entries table orPlain

@@ -1,5 +1,5 @@
 pub mod Parts
-pub mod Runs
+pub mod Spelled
 pub mod Steps
 pub mod Passing
 pub mod Respelling

@@ -1,5 +1,5 @@
 -- A pass over a save: what it has counted and written, and what is left. Assumes nothing.
-use Prim.Native.Nat.{ℕ, _+_, _-_, _≤_, _<_}
+use Prim.Native.Nat.{ℕ, _+_, _-_, _*_, _^_, _≤_, _<_}
 use native.Mathlib.Omega.{arith}
 use mathlib.Core.Path.{_≡_, refl, sym, ap, _∙_}
 use mathlib.Core.Bool.{Bool, true, false}
@@ -11,18 +11,26 @@ use lib.Dec.{leb}
 use borrow.Author.Tests.{le-leb, lt-leb, leb-true, leb-false}
 use borrow.Rule.Slice.PartAt.{part-to-end}
 use borrow.Rule.Slice.PartMut.{put-same}
-use Rattle.form.specs.Saves.{walk, normal}
+use Rattle.form.specs.Numbers.{leBytes}
+use Rattle.form.specs.Values as F
+use Rattle.form.specs.Values.{kind}
+use Rattle.form.specs.Table.{table, entries}
+use Rattle.form.specs.Ids.{sample, alike, findId, idOf}
+use Rattle.form.specs.Spelling.{tag, body, spell}
+use Rattle.form.specs.Saves.{LIMIT, walk, normal}
 use Rattle.form.specs.Writing.{written, unwritten, Outcome, wrote, outcome, leaves, fitted, firstRefusal, unless}
 use Rattle.form.proofs.Runs.{sets-append, sets-front}
 use Rattle.writer.specs.Writes.{Follows}
+use Rattle.writer.specs.Parts.{idNumber}
 use Rattle.writer.proofs.Fitting.{never}
 use Rattle.normaliser.specs.declared.Normalised.{Normalised}
 use Rattle.normaliser.specs.declared.Normalised.the-variants.{Written}
 use Rattle.normaliser.specs.declared.Respelled.{Respelled}
 use Rattle.normaliser.specs.declared.Respelled.the-variants.{To, Refused}
-use Rattle.normaliser.specs.Parts.{before, between, Spells, Placed, Puts, Respelt, Respells, Stopped, Copied}
+use Rattle.normaliser.specs.Parts.{before, Spells, Placed, Puts, Respelt, Respells, Stopped, Appends}
 use Rattle.normaliser.specs.Passes.{unbounded, Passed}
-use Rattle.normaliser.proofs.Parts.{rest-start, rest-end, spells-none, spells-then, between-length}
+use Rattle.normaliser.specs.Spellings.{Token, Stand}
+use Rattle.normaliser.proofs.Parts.{rest-start, rest-end, spells-none, spells-then}
 
 -- ---- bytes into a part of the output
 
@@ -127,9 +135,13 @@ going-stopped {s} {i = i} g k d′ =
 
 -- ---- the same, by what the code knows
 
-pub copied : {s d ys : List ℕ} {p q need at : ℕ} {a : Outcome} → Spells s p q (between s p q) → Placed need (length d) at
-    → Follows (fitted (length (part d at)) (between s p q)) a (part d at) ys → Copied s p d need (back d at ys) q
-copied k p f = record { spells = k; puts = puts p (f .output) }
+pub appends : {d bs ys : List ℕ} {need at : ℕ} {a : Outcome} → Placed need (length d) at → Follows (fitted (length (part d at)) bs) a (part d at) ys
+    → (r : ℕ) → r ≡ need + length bs → Appends d need bs (back d at ys) r
+appends p f r e = record { puts = puts p (f .output); count = e }
+
+-- nothing more
+pub appends-none : (d : List ℕ) (need : ℕ) → Appends d need [] d need
+appends-none d need = record { puts = record { same = refl; bytes = λ _. refl }; count = omega arith }
 
 module _ {s d₀ d d′ : List ℕ} {i need : ℕ} {x : Respelled} (g : Going s d₀ d i need) (r : Respells s i d need d′ x) where
   pub stopped : {why : Normalised} → x ≡ Refused why → Passed s d₀ d′ why
@@ -138,6 +150,23 @@ module _ {s d₀ d d′ : List ℕ} {i need : ℕ} {x : Respelled} (g : Going s 
   pub turned : {q n : ℕ} → x ≡ To q n → (i < q) × Going s d₀ d′ q (need + n)
   turned {q} {n} e = let t : Respelt s i q n d need d′ = rw e at r in (t .more, going-on g (t .spells) (t .size) (t .puts))
 
--- and the tokens after it
-pub went-on : {s d₀ d d′ : List ℕ} {i need q : ℕ} → Going s d₀ d i need → Copied s i d need d′ q → Going s d₀ d′ q (need + (q - i))
-went-on {s} {i = i} {q = q} g k = going-on g (k .spells) (sym (between-length s i q (k .spells .there))) (k .puts)
+-- the bytes so far are few enough to count
+pub bounded : {s d₀ d : List ℕ} {i need : ℕ} → Going s d₀ d i need → length s ≤ LIMIT → need ≤ 5 * LIMIT
+bounded g l = omega (arith, g .size, g .spells .short, g .spells .there)
+
+-- a run can be copied
+pub run-there : {s d₀ d : List ℕ} {i need e : ℕ} → Going s d₀ d i need → Stand s i e → length s ≤ LIMIT → (i ≤ e) × (e ≤ length s) × (need + (e - i) < 2 ^ 64)
+run-there g h l = (h .on, h .there, omega (arith, g .size, g .spells .short, h .on, h .there))
+
+-- and the tokens whose bytes were appended
+pub went-on : {s d₀ d d′ bs : List ℕ} {i need q r : ℕ} → Going s d₀ d i need → Spells s i q bs → Appends d need bs d′ r → Going s d₀ d′ q r
+went-on g k a = rw (a .count) (going-on g k refl (a .puts))
+
+module _ {s d₀ d d′ : List ℕ} {i need q r : ℕ} (x : ℕ) (g : Going s d₀ d i need) where
+  pub float-on : Token s i q (spell (F.F64 x)) → Appends d need (idNumber 0x0167 8 x) d′ r → Going s d₀ d′ q r
+  unfolding spell tag body idOf findId alike sample entries table kind leBytes
+  float-on t a = went-on g (t .1) a
+
+  pub lookup-on : Token s i q (spell (F.Lookup x)) → Appends d need (idNumber 0x0d41 3 x) d′ r → Going s d₀ d′ q r
+  unfolding spell tag body idOf findId alike sample entries table kind leBytes
+  lookup-on t a = went-on g (t .1) a

@@ -66,7 +66,7 @@ abbrev pub Respells : List ℕ → ℕ → List ℕ → ℕ → List ℕ → Res
 Respells s p d need d′ (To q n) = Respelt s p q n d need d′
 Respells s p d need d′ (Refused x) = Stopped s p x
 
--- the tokens from p up to q are spelled as they stand, and they are put
-pub record Copied (s : List ℕ) (p : ℕ) (d : List ℕ) (need : ℕ) (d′ : List ℕ) (q : ℕ) : Type 0 where
-  pub spells : Spells s p q (between s p q)
-  pub puts : Puts d need (between s p q) d′
+-- bs are put after so many bytes of the output, and r counts them with those
+pub record Appends (d : List ℕ) (need : ℕ) (bs d′ : List ℕ) (r : ℕ) : Type 0 where
+  pub puts : Puts d need bs d′
+  pub count : r ≡ need + length bs

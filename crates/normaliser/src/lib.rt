@@ -1,16 +1,19 @@
 // The whole save in normal form, into a lent output.
-mod standing;
+mod spelling;
 
 ghost use mathlib.Core.Path.{_≡_};
-ghost use Prim.Native.Nat.{_≤_, _<_};
+ghost use Prim.Native.Nat.{_+_, _-_, _^_, _≤_, _<_};
 ghost use lib.ListN.{length};
 ghost use Rattle.form.specs.Refusals.{refusalAt};
 ghost use Rattle.form.specs.Saves.{LIMIT as Saves·LIMIT};
 ghost use Rattle.form.specs.Writing.{declined, normalise as Writing·normalise};
 ghost use Rattle.payload.specs.Answers.{faultOf};
 ghost use Rattle.writer.specs.Writes.{Follows};
-ghost use Rattle.normaliser.specs.Parts.{Placed, Respells, Copied};
+ghost use Rattle.writer.specs.Parts.{idNumber};
+ghost use Rattle.normaliser.specs.Parts.{between, Placed, Respells, Appends};
 ghost use Rattle.normaliser.specs.Passes.{normalisedOutcome, Passed};
+use crate::spelling::Run;
+use lexeme::LexemeId;
 use payload::LexError;
 use token::ReadToken;
 use writer::Wrote;
@@ -71,40 +74,68 @@ fn respell(bytes: &[u8], at: usize, out: &mut [u8], need: usize) -> Respelled
     }
 }
 
-// The tokens from a place on that are spelled as they stand, copied. Answers the place after them.
-fn copy_run(bytes: &[u8], start: usize, out: &mut [u8], need: usize) -> usize
-    requires { ⌜ start ≤ length (now bytes) ⌝ }
-    ensures { λ r. ⌜ Copied (now (bytes .entry)) start (now (out .entry)) need (now (out .exit)) r ⌝ }
+// An id and a number after so many bytes of the output. Answers how many there are then.
+fn put_number(out: &mut [u8], need: usize, id: LexemeId, width: u8, x: u64) -> usize
+    requires { ⌜ need + (2 + width) < 2 ^ 64 ⌝ }
+    ensures { λ r. ⌜ Appends (now (out .entry)) need (idNumber (id .0) width x) (now (out .exit)) r ⌝ }
 {
-    let end = standing::standing(bytes, start);
-    let from = place(need, out.len());
-    writer::copy(&bytes[start..end], &mut out[from..]);
-    end
+    let to = place(need, out.len());
+    writer::write_number(id, width, x, &mut out[to..]);
+    need + (2 + width as usize)
 }
 
-// A token in its normal spelling, then the tokens after it that are spelled as they stand, and so on. What does not fit is counted and
+// The bytes between two places, as they stand.
+fn copy_run(bytes: &[u8], start: usize, end: usize, out: &mut [u8], need: usize) -> usize
+    requires { ⌜ (start ≤ end) × (end ≤ length (now bytes)) × (need + (end - start) < 2 ^ 64) ⌝ }
+    ensures { λ r. ⌜ Appends (now (out .entry)) need (between (now (bytes .entry)) start end) (now (out .exit)) r ⌝ }
+{
+    if start == end {
+        return need;
+    }
+    let to = place(need, out.len());
+    writer::copy(&bytes[start..end], &mut out[to..]);
+    need + (end - start)
+}
+
+// The tokens that stand as they are spelled, then the one after them in its normal spelling, and so on. What does not fit is counted and
 // not written: so on an output of no bytes the pass measures.
 fn pass(bytes: &[u8], out: &mut [u8]) -> Normalised
     requires { ⌜ length (now bytes) ≤ Saves·LIMIT ⌝ }
     ensures { λ r. ⌜ Passed (now (bytes .entry)) (now (out .entry)) (now (out .exit)) r ⌝ }
 {
-    let mut i: usize = 0;
+    let mut at: usize = 0;
     let mut need: usize = 0;
-    while i < bytes.len() {
-        let token = respell(bytes, i, out, need);
-        match token {
-            Respelled::Refused(why) => {
-                return why;
+    loop {
+        let run = spelling::standing(bytes, at);
+        match run {
+            Run::F64(end, x, next) => {
+                need = copy_run(bytes, at, end, out, need);
+                need = put_number(out, need, LexemeId::F64, 8, x);
+                at = next;
             }
-            Respelled::To(next, n) => {
-                need += n;
-                let end = copy_run(bytes, next, out, need);
-                need += end - next;
-                i = end;
+            Run::Lookup(end, x, next) => {
+                need = copy_run(bytes, at, end, out, need);
+                need = put_number(out, need, LexemeId::LOOKUP_U24, 3, x as u64);
+                at = next;
+            }
+            Run::Otherwise(end) => {
+                need = copy_run(bytes, at, end, out, need);
+                if end == bytes.len() {
+                    return Normalised::Written(need);
+                }
+                let token = respell(bytes, end, out, need);
+                match token {
+                    Respelled::Refused(why) => {
+                        return why;
+                    }
+                    Respelled::To(next, n) => {
+                        need += n;
+                        at = next;
+                    }
+                }
             }
         }
     }
-    Normalised::Written(need)
 }
 
 // The normal form at the front of the output, or a refusal that leaves the output as it is.

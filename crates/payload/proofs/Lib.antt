@@ -1,5 +1,6 @@
 pub mod Laws
 pub mod Signed
+pub mod Rests
 pub mod Parts
-pub mod Padding
+pub mod Cutting
 pub mod Unique

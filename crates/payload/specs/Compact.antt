@@ -1,7 +1,6 @@
 -- Compact numbers: few bytes, and a sign.
-use Prim.Native.Nat.{ℕ, zero, suc}
+use Prim.Native.Nat.{ℕ}
 use mathlib.Core.Bool.{Bool}
-use mathlib.Core.List.{List, [], _∷_}
 use lib.Dec.{leb}
 use Rattle.form.specs.Numbers.{pick, negated}
 use Rattle.form.specs.Readers.{ByPlace, at, mapped}
@@ -18,9 +17,3 @@ signedBy negative n = pick negative (negated n) n
 -- the compact number of w bytes at a place
 abbrev pub compact : ℕ → Bool → ByPlace ℕ
 compact w negative s p = mapped (signedBy negative) (at (num (least7 w)) s p)
-
--- bytes with zeros after them, n in all
-unfoldable pub padded : ℕ → List ℕ → List ℕ
-padded zero s = []
-padded (suc n) [] = 0 ∷ padded n []
-padded (suc n) (b ∷ s) = b ∷ padded n s

@@ -1,12 +1,12 @@
 // Compact numbers.
 ghost use mathlib.Core.Path.{_≡_};
-ghost use Prim.Native.Nat.{_≤_};
+ghost use Prim.Native.Nat.{_-_, _≤_};
 ghost use lib.ListN.{length, take, drop};
-ghost use Rattle.form.specs.Numbers.{negated};
+ghost use Rattle.form.specs.Numbers.{le, negated};
 ghost use Rattle.form.specs.Readers.{at as readAt};
 ghost use Rattle.form.specs.Reading.{num};
 ghost use Rattle.payload.specs.Answers.{u64Answer};
-ghost use Rattle.payload.specs.Compact.{least7, padded};
+ghost use Rattle.payload.specs.Compact.{least7};
 use crate::answers::LexError;
 use crate::answers::ReadU64;
 use crate::numbers;
@@ -18,31 +18,35 @@ pub(crate) fn capped(width: usize) -> usize
     if width <= 7 { width } else { 7 }
 }
 
-// Eight bytes: those at the place, and zeros after them.
-fn pad(bytes: &[u8], at: usize, width: usize) -> [u8; 8]
-    requires { ⌜ (width ≤ 7) × (width ≤ length (drop at (now bytes))) ⌝ }
-    ensures { λ r. ⌜ r ≡ padded 8 (take width (drop at (now (bytes .entry)))) ⌝ }
+// The number of the last width bytes before a place: that of the last eight, with the lower bytes cut off.
+fn last(bytes: &[u8], end: usize, width: usize) -> u64
+    requires { ⌜ (width ≤ 7) × (8 ≤ end) × (end ≤ length (now bytes)) ⌝ }
+    ensures { λ r. ⌜ r ≡ le (take width (drop (end - width) (now (bytes .entry)))) ⌝ }
 {
-    let mut buf = [0u8; 8];
-    let mut i = 0;
-    while i < width {
-        buf[i] = bytes[at + i];
-        i += 1;
-    }
-    buf
+    let first = end - 8;
+    let y = numbers::spelled(bytes, first, 8);
+    let k = 56 - 8 * width as u64;
+    (y >> k) / 256
 }
 
-// The number of so few bytes, read as eight.
-pub(crate) fn read_padded(bytes: &[u8], at: usize, width: usize) -> ReadU64
+// The number of so few bytes, by the eight that end where it ends.
+pub(crate) fn read_few(bytes: &[u8], at: usize, width: usize) -> ReadU64
     requires { ⌜ width ≤ 7 ⌝ }
     ensures { λ r. ⌜ u64Answer r ≡ readAt (num width) (now (bytes .entry)) at ⌝ }
 {
-    if numbers::left(bytes, at) < width {
+    // Near the start there may not be eight.
+    if at < 8 {
+        return numbers::read_width(bytes, at, width);
+    }
+    // Past the end there are still numbers of no bytes.
+    if bytes.len() < at {
+        return numbers::read_width(bytes, at, width);
+    }
+    if !split::has(bytes, at, width) {
         return ReadU64::Refused(LexError::Eof);
     }
-    let buf = pad(bytes, at, width);
-    let x = numbers::spelled(&buf, 0, 8);
     let next = at + width;
+    let x = last(bytes, next, width);
     ReadU64::Got(x, next)
 }
 

@@ -50,7 +50,7 @@ pub fn read_string(bytes: &[u8], at: usize) -> ReadString
         return ReadString::Refused(r.refusal());
     };
     let len = x as usize;
-    if numbers::left(bytes, start) < len {
+    if !split::has(bytes, start, len) {
         return ReadString::Refused(LexError::Eof);
     }
     let next = start + len;
@@ -150,7 +150,7 @@ pub fn read_lookup_u32(bytes: &[u8], at: usize) -> ReadU32
 pub fn read_compact_f64(bytes: &[u8], at: usize, width: usize, negative: bool) -> ReadU64
     ensures { λ r. ⌜ u64Answer r ≡ compact width negative (now (bytes .entry)) at ⌝ }
 {
-    let r = compact::read_padded(bytes, at, compact::capped(width));
+    let r = compact::read_few(bytes, at, compact::capped(width));
     let ReadU64::Got(x, next) = r else {
         return ReadU64::Refused(r.refusal());
     };
@@ -161,9 +161,15 @@ pub fn read_compact_f64(bytes: &[u8], at: usize, width: usize, negative: bool) -
     }
 }
 
-// A colour, after its id.
+// A colour, after its id. It is read in the bytes from the place on: all places inside it are then constants.
 pub fn read_rgb(bytes: &[u8], at: usize) -> ReadRgb
     ensures { λ r. ⌜ rgbAnswer r ≡ readAt rgb (now (bytes .entry)) at ⌝ }
 {
-    colour::read_colour(bytes, at)
+    let rest = split::split_rest(bytes, at);
+    let r = colour::read_colour(rest, 0);
+    let ReadRgb::Got(c, n) = r else {
+        return r;
+    };
+    let next = at + n;
+    ReadRgb::Got(c, next)
 }

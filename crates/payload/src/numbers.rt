@@ -12,13 +12,6 @@ use crate::answers::LexError;
 use crate::answers::ReadU32;
 use crate::answers::ReadU64;
 
-// How many bytes there are from a place on.
-pub(crate) fn left(bytes: &[u8], at: usize) -> usize
-    ensures { λ r. ⌜ r ≡ length (drop at (now (bytes .entry))) ⌝ }
-{
-    split::split_rest(bytes, at).len()
-}
-
 // The little-endian number of width bytes at a place, highest byte first.
 pub(crate) fn spelled(bytes: &[u8], at: usize, width: usize) -> u64
     requires { ⌜ (width ≤ 8) × (width ≤ length (drop at (now bytes))) ⌝ }
@@ -38,7 +31,7 @@ pub(crate) fn read_width(bytes: &[u8], at: usize, width: usize) -> ReadU64
     requires { ⌜ width ≤ 8 ⌝ }
     ensures { λ r. ⌜ u64Answer r ≡ readAt (num width) (now (bytes .entry)) at ⌝ }
 {
-    if left(bytes, at) < width {
+    if !split::has(bytes, at, width) {
         return ReadU64::Refused(LexError::Eof);
     }
     let x = spelled(bytes, at, width);

@@ -1,9 +1,9 @@
--- What a walk passes after an id: how the leaves answer, and the arms of the code's `match`. Assumes nothing.
-use Prim.Native.Nat.{ℕ, _+_, _≤_, _<_, zero-le}
+-- What a walk passes after an id: how the leaves answer, the arms of the code's `match`, and the widths of compact numbers. Assumes nothing.
+use Prim.Native.Nat.{ℕ, _+_, _-_, _≤_, _<_, zero-le}
 use native.Mathlib.Omega.{arith}
 use native.Mathlib.Nat.{add-zero}
 use mathlib.Core.Path.{_≡_, refl, sym, ap, _∙_}
-use mathlib.Core.Bool.{Bool, true, false, _||_}
+use mathlib.Core.Bool.{Bool, true, false, _||_, or-true}
 use mathlib.Core.Option.{Option, none, some}
 use mathlib.Core.List.{List}
 use lib.ListN.{length, take, drop}
@@ -16,10 +16,11 @@ use Rattle.form.specs.Refusals.{Fault, tooShort}
 use Rattle.form.specs.Readers.{Answer, found, refused, further, andThen, mapped, placed, at}
 use Rattle.form.specs.Reading.{next, num, string, payload}
 use Rattle.form.specs.Skipping.{stepped, passing}
-use Rattle.form.proofs.Lookups.{plain-after}
+use Rattle.form.proofs.Lookups.{plain-after, compact-in, negated-at}
 use Rattle.form.proofs.Places.{num-there, num-short, string-then, at-giving, at-on}
 use Rattle.form.proofs.SkipSteps.{pass-number, pass-text, pass-colour}
 use Rattle.form.proofs.Elsewhere.{eachId, listed, MissedAll, elsewhere}
+use Rattle.skip.specs.Walks.{room, stepsOver}
 
 -- ---- a number or a text is refused for too few bytes, and for nothing else
 
@@ -81,15 +82,7 @@ module _ {B : Type 0} (f : ℕ → List ℕ → B) (s : List ℕ) (p : ℕ) wher
       go (found a m) h q = let z : _≡_ {A = ℕ} 0 1 = cc in absurd (omega arith)
       go (refused w) h q = ap refused h
 
--- ---- what a walk steps over after an id: so many bytes, or a text
-
-abbrev room : Payload → Option ℕ
-room (number w f) = some w
-room (text f) = none
-room colour = some 0
-
-abbrev pub stepsOver : ℕ → Option ℕ
-stepsOver i = room (after i)
+-- ---- past what a walk steps over after an id
 
 abbrev pub crossed : Option ℕ → List ℕ → ℕ → Answer (Unit {0})
 crossed none s p = mapped (λ _. tt) (at string s p)
@@ -132,7 +125,18 @@ nothing-some : (o : Option ℕ) → isNothing o ≡ true → o ≡ some 0
 nothing-some none e = let z : _≡_ {A = ℕ} 0 1 = cc in absurd (omega arith)
 nothing-some (some w) e = ap some (eqb-true w 0 e)
 
--- no byte follows an id that no arm has, if each of the table's ids with a payload is in an arm
-pub bare : (kss : List (List ℕ)) → eachId (λ k. listed k kss || isNothing (stepsOver k)) entries ≡ true
-    → (x : ℕ) → MissedAll (Unit {0}) kss x → stepsOver x ≡ some 0
-bare kss e x m = nothing-some (stepsOver x) (elsewhere (λ i. isNothing (stepsOver i)) kss (λ i r. rw (plain-after i r)) e x m)
+-- no byte follows an id that no arm has and that is none of some others, if each of the table's ids with a payload is in an arm or is
+-- one of them
+pub bare : (other : ℕ → Bool) (kss : List (List ℕ)) → eachId (λ k. listed k kss || (other k || isNothing (stepsOver k))) entries ≡ true
+    → (x : ℕ) → MissedAll (Unit {0}) kss x → other x ≡ false → stepsOver x ≡ some 0
+bare other kss e x m h =
+    let t = elsewhere (λ i. other i || isNothing (stepsOver i)) kss (λ i r. rw (plain-after i r) (or-true (other i))) e x m in
+    nothing-some (stepsOver x) (rw h at t)
+
+-- ---- the compact numbers
+
+pub compact-steps : (x : ℕ) → 0x0d47 ≤ x → x < 0x0d4f → stepsOver x ≡ some (x - 0x0d47)
+compact-steps x lo hi = ap room (compact-in x lo hi)
+
+pub negated-steps : (x : ℕ) → 0x0d4f ≤ x → x < 0x0d56 → stepsOver x ≡ some (x - 0x0d4e)
+negated-steps x lo hi = ap room (negated-at x lo hi)

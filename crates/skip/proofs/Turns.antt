@@ -19,10 +19,10 @@ use Rattle.form.proofs.Lookups.{open-is, close-is, plain-after}
 use Rattle.form.proofs.Places.{took}
 use Rattle.form.proofs.SkipSteps.{cut-id, cut-payload, turn, turned-open, turned-up, turned-on}
 use Rattle.form.proofs.Elsewhere.{elsewhere}
-use Rattle.skip.specs.Walks.{walkFrom, walkAfter, Turned}
+use Rattle.skip.specs.Walks.{stepsOver, walkFrom, walkAfter, Turned}
 use Rattle.skip.specs.declared.walk.Turn.{Turn}
 use Rattle.skip.specs.declared.walk.Turn.the-variants.{On}
-use Rattle.skip.proofs.Passing.{stepsOver, passed-nothing}
+use Rattle.skip.proofs.Passing.{passed-nothing}
 
 -- ---- a turn
 

@@ -1,13 +1,24 @@
 -- The walk as the code goes it: with an id just read, and over at depth 0.
 use Prim.Native.Nat.{ℕ, _+_, _*_, _≤_}
 use mathlib.Core.Path.{_≡_}
+use mathlib.Core.Option.{Option, none, some}
 use mathlib.Core.List.{List}
 use lib.Dec.{eqb}
 use Rattle.form.specs.Numbers.{pick}
+use Rattle.form.specs.Table.{Payload, number, text, colour, after}
 use Rattle.form.specs.Refusals.{tooShort}
 use Rattle.form.specs.Skipping.{Skip, past, stopped, orStop, passing, turned, skipping}
 use Rattle.skip.specs.declared.walk.Turn.{Turn}
 use Rattle.skip.specs.declared.walk.Turn.the-variants.{On, Out, Short}
+
+-- what a walk steps over after an id: so many bytes, or a text
+abbrev pub room : Payload → Option ℕ
+room (number w f) = some w
+room (text f) = none
+room colour = some 0
+
+abbrev pub stepsOver : ℕ → Option ℕ
+stepsOver i = room (after i)
 
 -- from place p at depth d: at depth 0 the walk is over
 unfoldable pub walkFrom : ℕ → List ℕ → ℕ → Skip

@@ -1,11 +1,12 @@
 // The walk: ids and what follows them, with a depth.
 ghost use mathlib.Core.Path.{_≡_};
+ghost use mathlib.Core.Option.{some};
 ghost use Prim.Native.Nat.{_*_, _≤_};
 ghost use Rattle.form.specs.Readers.{at as readAt, mapped};
 ghost use Rattle.form.specs.Reading.{num, string as stringOf};
 ghost use Rattle.form.specs.Skipping.{passing};
 ghost use Rattle.skip.specs.Skips.{skipAnswer, passedAnswer};
-ghost use Rattle.skip.specs.Walks.{walkAfter, Turned};
+ghost use Rattle.skip.specs.Walks.{stepsOver, walkAfter, Turned};
 use crate::Skipped;
 use lexeme::LexemeId;
 use lexeme::number;
@@ -30,7 +31,7 @@ pub enum Turn {
 fn fixed(bytes: &[u8], at: usize, width: usize) -> Passed
     ensures { λ r. ⌜ passedAnswer r ≡ mapped (λ _. tt) (readAt (num width) (now (bytes .entry)) at) ⌝ }
 {
-    if split::split_rest(bytes, at).len() < width {
+    if !split::has(bytes, at, width) {
         return Passed::Short;
     }
     let end = at + width;
@@ -47,43 +48,48 @@ fn string(bytes: &[u8], at: usize) -> Passed
     Passed::To(next)
 }
 
+// How many bytes a compact number has after its id: by arithmetic, so that the widths are no jump.
+fn compact_width(n: u16) -> usize
+    requires { ⌜ (0x0d47 ≤ n) × (n ≤ 0x0d55) ⌝ }
+    ensures { λ r. ⌜ stepsOver n ≡ some r ⌝ }
+{
+    let offset = (n - number::FIXED5_ZERO) as usize;
+    if offset <= 7 { offset } else { offset - 7 }
+}
+
 // Past the payload of an id, where a colour's id stands alone. It has one caller, and its arms are single numbers no two of
-// which are neighbours, so that it compiles to jump tables in the caller's loop.
+// which are neighbours, so that it compiles to jump tables in the caller's loop. The compact numbers come last, by their width.
 fn skip_payload(bytes: &[u8], at: usize, id: LexemeId) -> Passed
     ensures { λ r. ⌜ passedAnswer r ≡ passing (id .0) (now (bytes .entry)) at ⌝ }
 {
     let n = id.0;
     match n {
         number::QUOTED | number::UNQUOTED | number::STR_SAV03 => string(bytes, at),
-        number::BOOL
-        | number::LOOKUP_U8
-        | number::LOOKUP_U8_ALT
-        | number::LOOKUP_U8_SAV03
-        | number::FIXED5_U8
-        | number::FIXED5_I8 => fixed(bytes, at, 1),
-        number::LOOKUP_U16
-        | number::LOOKUP_U16_ALT
-        | number::LOOKUP_U16_SAV03
-        | number::FIXED5_U16
-        | number::FIXED5_I16 => fixed(bytes, at, 2),
-        number::LOOKUP_U24
-        | number::LOOKUP_U24_ALT
-        | number::LOOKUP_U24_SAV03
-        | number::FIXED5_U24
-        | number::FIXED5_I24 => fixed(bytes, at, 3),
+        number::BOOL | number::LOOKUP_U8 | number::LOOKUP_U8_ALT | number::LOOKUP_U8_SAV03 => {
+            fixed(bytes, at, 1)
+        }
+        number::LOOKUP_U16 | number::LOOKUP_U16_ALT | number::LOOKUP_U16_SAV03 => {
+            fixed(bytes, at, 2)
+        }
+        number::LOOKUP_U24 | number::LOOKUP_U24_ALT | number::LOOKUP_U24_SAV03 => {
+            fixed(bytes, at, 3)
+        }
         number::U32
         | number::I32
         | number::LOOKUP_U32
         | number::LOOKUP_U32_ALT
-        | number::LOOKUP_U32_SAV03
-        | number::FIXED5_U32
-        | number::FIXED5_I32 => fixed(bytes, at, 4),
+        | number::LOOKUP_U32_SAV03 => fixed(bytes, at, 4),
         number::F32 => fixed(bytes, at, 4),
-        number::FIXED5_U40 | number::FIXED5_I40 => fixed(bytes, at, 5),
-        number::FIXED5_U48 | number::FIXED5_I48 => fixed(bytes, at, 6),
-        number::FIXED5_U56 | number::FIXED5_I56 => fixed(bytes, at, 7),
         number::U64 | number::I64 | number::F64 => fixed(bytes, at, 8),
-        _ => Passed::To(at),
+        _ => {
+            if n < number::FIXED5_ZERO {
+                return Passed::To(at);
+            }
+            if number::FIXED5_I56 < n {
+                return Passed::To(at);
+            }
+            fixed(bytes, at, compact_width(n))
+        }
     }
 }
 

@@ -1,6 +1,7 @@
 // Splitting bytes after a count.
 ghost use mathlib.Core.Path.{_≡_};
-ghost use Rattle.split.specs.Splits.{splitAt, headOf, restOf};
+ghost use lib.ListN.{drop};
+ghost use Rattle.split.specs.Splits.{splits, splitAt, headOf, restOf};
 
 pub enum Split {
     At(usize),
@@ -16,6 +17,17 @@ pub fn get_split(bytes: &[u8], count: usize) -> Split
     } else {
         Split::Nothing
     }
+}
+
+// Whether so many bytes stand from a place on.
+pub fn has(bytes: &[u8], at: usize, count: usize) -> bool
+    ensures { λ r. ⌜ r ≡ splits (drop at (now (bytes .entry))) count ⌝ }
+{
+    let len = bytes.len();
+    if len < at {
+        return count == 0;
+    }
+    count <= len - at
 }
 
 // The bytes before the split; none where there is nothing to split.

@@ -227,11 +227,11 @@ fn by_id(bytes: &[u8], id: LexemeId, next: usize) -> ReadToken
             lookup_token(payload::read_lookup_u32(bytes, next)),
         number::FIXED5_ZERO..=number::FIXED5_U56 => {
             let width = (n - number::FIXED5_ZERO) as usize;
-            f64_token(payload::read_compact_f64(bytes, next, width, false))
+            f64_token(payload::read_compact_f64(&bytes[0..], next, width, false))
         }
         number::FIXED5_I8..=number::FIXED5_I56 => {
             let width = (n - number::FIXED5_U56) as usize;
-            f64_token(payload::read_compact_f64(bytes, next, width, true))
+            f64_token(payload::read_compact_f64(&bytes[0..], next, width, true))
         }
         _ => ReadToken::Got(Token::Id(n), next),
     }

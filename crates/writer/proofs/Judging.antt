@@ -15,10 +15,12 @@ use Rattle.form.specs.Writing.{Output, written, unwritten, wrote, outcome, leav
 use Rattle.writer.specs.declared.Wrote.{Wrote}
 use Rattle.writer.proofs.Wrote.{the-type}
 use Rattle.writer.specs.declared.Wrote.the-variants.{Written, NotEncodable, NoRoom, BadPlace}
-use Rattle.writer.specs.Writes.{wroteOutcome}
+use Rattle.writer.specs.Writes.{wroteOutcome, Follows, Fitted}
 use Rattle.writer.specs.declared.parts.Parts.{Parts}
 use Rattle.writer.specs.Parts.{spelledBy, misplacedBy, writableBy, writeBy}
+use Rattle.writer.specs.Put.{Put}
 use Rattle.writer.proofs.Fitting.{never, fitted-written}
+use Rattle.writer.proofs.Stores.{put-front}
 
 -- a refusal leaves the output unchanged
 pub refused-leaves : (o : Output) (r : Wrote) (d : List ℕ) → wroteOutcome r ≡ outcome o → OneOf (1 ∷ 2 ∷ 3 ∷ []) (tagOf the-type r) → leaves o d ≡ d
@@ -47,3 +49,20 @@ written-fits room s p {r} {n} e q = placed (misplacedBy s p) (sym (ap wroteOutco
         → (unless o (pick (writableBy p) (fitted room bs) (unwritten (R.NotEncodable 0))) ≡ written bs) × (length bs ≤ room)
     placed none e = judged (writableBy p) e
     placed (some why) e = never (cc)
+
+-- ---- bytes that are judged by the room alone
+
+module _ (d bs : List ℕ) {m : ℕ} (r : Wrote) (l : length bs ≡ m) (f : Fitted m (length d) r) where
+  pub not-stored : OneOf (1 ∷ 2 ∷ 3 ∷ []) (tagOf the-type r) → Follows (fitted (length d) bs) (wroteOutcome r) d d
+  not-stored q = record { answer = f bs l; output = sym (refused-leaves (fitted (length d) bs) r d (f bs l) q) }
+
+  module _ {n : ℕ} (q : r ≡ Written n) where
+    abbrev is : (n ≡ length bs) × (length bs ≤ length d) × (fitted (length d) bs ≡ written bs)
+    is = fitted-written (length d) bs (sym (ap wroteOutcome q) ∙ f bs l)
+
+    pub room : length bs ≤ length d
+    room = is .1
+
+    pub stored : {d′ : List ℕ} {p : ℕ} → Put d 0 bs d′ p → Follows (fitted (length d) bs) (wroteOutcome r) d d′
+    unfolding leaves
+    stored p = record { answer = f bs l; output = put-front room p ∙ ap (λ o. leaves o d) (sym (is .2)) }

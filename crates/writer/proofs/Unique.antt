@@ -9,6 +9,7 @@ use Rattle.form.proofs.Unique.{same}
 use Rattle.token.specs.declared.Token.{Token}
 use Rattle.writer.specs.declared.Wrote.{Wrote}
 use Rattle.writer.specs.declared.Wrote.the-variants.{Written, NotEncodable, NoRoom, BadPlace}
+use Rattle.writer.specs.Parts.{idNumber}
 use Rattle.writer.specs.Writes.{writeToken, wroteOutcome, Follows}
 
 -- of any answer that can be read back from what it stands for
@@ -41,3 +42,7 @@ write-one s t d = follows-one wroteOutcome wroteBack wrote-back (writeToken (len
 pub copy-one : (s d : List ℕ) {r r′ : Wrote} {d′ d″ : List ℕ}
     → Follows (fitted (length d) s) (wroteOutcome r) d d′ → Follows (fitted (length d) s) (wroteOutcome r′) d d″ → (r ≡ r′) × (d′ ≡ d″)
 copy-one s d = follows-one wroteOutcome wroteBack wrote-back (fitted (length d) s) d
+
+pub write-number-one : (i w n : ℕ) (d : List ℕ) {r r′ : Wrote} {d′ d″ : List ℕ}
+    → Follows (fitted (length d) (idNumber i w n)) (wroteOutcome r) d d′ → Follows (fitted (length d) (idNumber i w n)) (wroteOutcome r′) d d″ → (r ≡ r′) × (d′ ≡ d″)
+write-number-one i w n = copy-one (idNumber i w n)

@@ -3,7 +3,9 @@ mod parts;
 mod put;
 
 ghost use mathlib.Core.Path.{_≡_};
+ghost use mathlib.Core.List.{_++_};
 ghost use lib.ListN.{length};
+ghost use Rattle.form.specs.Numbers.{leBytes};
 ghost use Rattle.form.specs.Writing.{outcome, fitted};
 ghost use Rattle.writer.specs.Parts.{writeBy};
 ghost use Rattle.writer.specs.Writes.{writeToken, wroteOutcome, Follows, Fitted};
@@ -100,5 +102,18 @@ pub fn copy(src: &[u8], out: &mut [u8]) -> Wrote
         return answer;
     };
     put::all(out, 0, src);
+    answer
+}
+
+// An id and the low width bytes of a number at the front of the output, or a refusal that leaves the output as it is.
+pub fn write_number(id: LexemeId, width: u8, x: u64, out: &mut [u8]) -> Wrote
+    ensures { λ r. ⌜ Follows (fitted (length (now (out .entry))) (leBytes 2 (id .0) ++ leBytes width x)) (wroteOutcome r) (now (out .entry)) (now (out .exit)) ⌝ }
+{
+    let w = width as usize;
+    let answer = fit(2 + w, out.len());
+    let Wrote::Written(_) = answer else {
+        return answer;
+    };
+    put::id_number(out, 0, id, w, x);
     answer
 }

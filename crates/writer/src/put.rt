@@ -48,7 +48,7 @@ fn id(out: &mut [u8], at: usize, x: LexemeId) -> usize
 }
 
 // An id, and a number after it.
-fn id_number(out: &mut [u8], at: usize, x: LexemeId, width: usize, n: u64) -> usize
+pub(crate) fn id_number(out: &mut [u8], at: usize, x: LexemeId, width: usize, n: u64) -> usize
     requires { ⌜ at + (2 + width) ≤ length (now out) ⌝ }
     ensures { λ r. ⌜ Put (now (out .entry)) at (idNumber (x .0) width n) (now (out .exit)) r ⌝ }
 {

@@ -32,10 +32,12 @@ pub enum Task {
 impl Task {
     const ALL: [Task; 4] = [Task::Read, Task::Skip, Task::Normalise, Task::Fast];
 
-    /// Colours are not fast.
-    fn flavours(self) -> [Flavour; 4] {
-        let last = if self == Task::Fast { Flavour::Compact } else { Flavour::Mixture };
-        [Flavour::ShortNumbers, Flavour::LongStrings, Flavour::DeepNesting, last]
+    /// Colours are not fast, and the last three flavours have some.
+    fn flavours(self) -> &'static [Flavour] {
+        match self {
+            Task::Read | Task::Skip | Task::Normalise => &Flavour::ALL,
+            Task::Fast => &Flavour::ALL[..5],
+        }
     }
 
     pub fn name(self) -> &'static str {
@@ -62,7 +64,7 @@ const WINDOW: usize = 16;
 
 impl Work {
     pub fn all() -> impl Iterator<Item = Work> {
-        Task::ALL.into_iter().flat_map(|task| task.flavours().map(|flavour| Work { task, flavour }))
+        Task::ALL.into_iter().flat_map(|task| task.flavours().iter().map(move |&flavour| Work { task, flavour }))
     }
 
     /// For skipping, the save stands in a container whose Open is read already; to have a normal form, it has no wide

@@ -222,7 +222,7 @@ unfolding entries table
 returns-20 c =
     let a = c .before .before .before .before .before .before in
     let r : Ready (a .args .window .now) (a .args .held) = record { bytes = c .before .before .before .before .before .shared-slice-known .given; long = a .pre .0; eight = search needs } in
-    arm-by (a .args .window .now) (a .args .held) (a .args .id .0) (c .compact2 .ensures) (negated-at _ (c .before .before .before .before .match .rest) (c .before .before .if2 .left) (c .before .if3 .taken)) (negated-arm r _)
+    arm-by (a .args .window .now) (a .args .held) (a .args .id .0) (c .compact2 .ensures) (negated-at _ (c .before .before .if2 .left) (c .before .if3 .taken)) (negated-arm r _)
 
 returns-21 : tie.Need-returns-21
 unfolding entries table

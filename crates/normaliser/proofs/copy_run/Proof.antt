@@ -1,11 +1,21 @@
 -- `normaliser::copy_run` meets its contract. Assumes nothing.
 use borrow.Author.Needs.{needs}
-use Rattle.normaliser.proofs.Passing.{copied}
+use native.Mathlib.Omega.{arith}
+use mathlib.Core.Path.{_≡_, sym, ap, _∙_}
+use mathlib.Core.List.{[]}
+use denote.Ref.{now}
+use lib.ListN.{length}
+use Rattle.normaliser.specs.Parts.{between}
+use Rattle.normaliser.proofs.Parts.{between-length, between-none}
+use Rattle.normaliser.proofs.Passing.{appends, appends-none}
 use Rattle.normaliser.proofs.copy_run.Statement.{statement}
 use Rattle.normaliser.proofs.copy_run.Tie as tie
 
-standing-requires : tie.Need-standing-requires
-standing-requires c κs = search needs
+returns : tie.Need-returns
+returns c =
+    let a = c .before .before .before .args in
+    let e : between (a .bytes .now) (a .start) (a .end) ≡ [] = ap (λ q. between (a .bytes .now) (a .start) q) (sym (c .if1 .taken)) ∙ between-none (a .bytes .now) (a .start) in
+    rw e (appends-none (now (a .out)) (a .need))
 
 place-requires : tie.Need-place-requires
 place-requires c κs = search needs
@@ -31,17 +41,26 @@ part-copy-end-2 c = search needs
 copy-requires : tie.Need-copy-requires
 copy-requires c κs = search needs
 
+sub-result : tie.Need-sub-result
+sub-result c = search needs
+
+add-result : tie.Need-add-result
+add-result c = search needs
+
 same-length : tie.Need-same-length
 same-length c = search needs
 
-returns : tie.Need-returns
-returns c = copied (c .before .before .before .before .before .before .standing .ensures) (c .before .before .before .before .before .place .ensures) (c .before .before .copy .ensures)
+returns-2 : tie.Need-returns-2
+returns-2 c =
+    let k = c .before .before .before .before .before in
+    let a = k .before .before .before .before .args in
+    appends (k .place .ensures) (c .before .before .copy .ensures) _ (omega (arith, between-length (a .bytes .now) (a .start) (a .end) (k .before .before .before .before .pre .1)))
 
 pub copy-run-spec : {M : Type 1} → statement M
 copy-run-spec =
     tie.close
     (tie.spec
-    standing-requires
+    returns
     place-requires
     sub-copy
     part-copy-start
@@ -50,5 +69,7 @@ copy-run-spec =
     part-copy-start-2
     part-copy-end-2
     copy-requires
+    sub-result
+    add-result
     same-length
-    returns)
+    returns-2)

@@ -4,67 +4,118 @@ use borrow.Author.Needs.{needs}
 use Prim.Native.Nat.{_-_}
 use native.Mathlib.Omega.{arith}
 use lib.ListN.{length}
-use Rattle.normaliser.proofs.Passing.{Going, going-start, going-end, turned, went-on, stopped}
+use Rattle.normaliser.proofs.Spelled.{ran-float, ran-lookup, ran-otherwise}
+use Rattle.normaliser.proofs.Passing.{Going, going-start, going-end, bounded, run-there, went-on, float-on, lookup-on, turned, stopped}
 use Rattle.normaliser.proofs.pass.Statement.{statement}
 use Rattle.normaliser.proofs.pass.Tie as tie
 
 abbrev Inv-loop : tie.InvT-loop
-Inv-loop bytes out₀ i₀ need₀ out i need = Going bytes out₀ out i need
+Inv-loop bytes out₀ at₀ need₀ out at need = Going bytes out₀ out at need
 
 abbrev μ-loop : tie.MeasureT-loop
-μ-loop bytes out₀ i₀ need₀ out i need = length bytes - i
+μ-loop bytes out₀ at₀ need₀ out at need = length bytes - at
 
 loop-holds : tie.Need-loop-holds Inv-loop μ-loop
 loop-holds c = going-start _ _
 
+standing-requires : tie.Need-standing-requires Inv-loop μ-loop
+standing-requires c κs = c .loop .inv .spells .there
+
+enum-known-run : tie.Need-enum-known-run Inv-loop μ-loop
+enum-known-run c = search needs
+
+copy-run-requires : tie.Need-copy-run-requires Inv-loop μ-loop
+copy-run-requires c κs =
+    let h = ran-float (c .before .before .before .before .before .before .before .before .args .bytes .now) (c .before .before .before .before .before .loop .at) (c .before .before .before .before .standing .ensures) (c .before .before .run .given .1) in
+    run-there (c .before .before .before .before .before .loop .inv) (h .0) (c .before .before .before .before .before .before .before .before .pre)
+
+put-number-requires : tie.Need-put-number-requires Inv-loop μ-loop
+put-number-requires c κs =
+    let h = ran-float (c .before .before .before .before .before .before .before .before .before .before .before .before .args .bytes .now) (c .before .before .before .before .before .before .before .before .before .loop .at) (c .before .before .before .before .before .before .before .before .standing .ensures) (c .before .before .before .before .before .before .run .given .1) in
+    let g = went-on (c .before .before .before .before .before .before .before .before .before .loop .inv) (h .0) (c .before .before .before .copy-run .ensures) in
+    omega (arith, bounded g (c .before .before .before .before .before .before .before .before .before .before .before .before .pre))
+
+loop-less : tie.Need-loop-less Inv-loop μ-loop
+loop-less c =
+    let h = ran-float (c .before .before .before .before .before .before .before .before .before .before .before .before .before .before .before .args .bytes .now) (c .before .before .before .before .before .before .before .before .before .before .before .before .loop .at) (c .before .before .before .before .before .before .before .before .before .before .before .standing .ensures) (c .before .before .before .before .before .before .before .before .before .run .given .1) in
+    omega (arith, h .0 .on, h .1 .0, h .1 .1 .there)
+
+loop-again : tie.Need-loop-again Inv-loop μ-loop
+loop-again c =
+    let h = ran-float (c .before .before .before .before .before .before .before .before .before .before .before .before .before .before .before .args .bytes .now) (c .before .before .before .before .before .before .before .before .before .before .before .before .loop .at) (c .before .before .before .before .before .before .before .before .before .before .before .standing .ensures) (c .before .before .before .before .before .before .before .before .before .run .given .1) in
+    let g = went-on (c .before .before .before .before .before .before .before .before .before .before .before .before .loop .inv) (h .0) (c .before .before .before .before .before .before .copy-run .ensures) in
+    float-on _ g (h .1) (c .before .before .put-number .ensures)
+
+enum-known-run-2 : tie.Need-enum-known-run-2 Inv-loop μ-loop
+enum-known-run-2 c = search needs
+
+copy-run-requires-2 : tie.Need-copy-run-requires-2 Inv-loop μ-loop
+copy-run-requires-2 c κs =
+    let h = ran-lookup (c .before .before .before .before .before .before .before .before .args .bytes .now) (c .before .before .before .before .before .loop .at) (c .before .before .before .before .standing .ensures) (c .before .before .run2 .given .1) in
+    run-there (c .before .before .before .before .before .loop .inv) (h .0) (c .before .before .before .before .before .before .before .before .pre)
+
+cast-put-number : tie.Need-cast-put-number Inv-loop μ-loop
+cast-put-number c = search needs
+
+put-number-requires-2 : tie.Need-put-number-requires-2 Inv-loop μ-loop
+put-number-requires-2 c κs =
+    let h = ran-lookup (c .before .before .before .before .before .before .before .before .before .before .before .before .args .bytes .now) (c .before .before .before .before .before .before .before .before .before .loop .at) (c .before .before .before .before .before .before .before .before .standing .ensures) (c .before .before .before .before .before .before .run2 .given .1) in
+    let g = went-on (c .before .before .before .before .before .before .before .before .before .loop .inv) (h .0) (c .before .before .before .copy-run2 .ensures) in
+    omega (arith, bounded g (c .before .before .before .before .before .before .before .before .before .before .before .before .pre))
+
+loop-less-2 : tie.Need-loop-less-2 Inv-loop μ-loop
+loop-less-2 c =
+    let h = ran-lookup (c .before .before .before .before .before .before .before .before .before .before .before .before .before .before .before .args .bytes .now) (c .before .before .before .before .before .before .before .before .before .before .before .before .loop .at) (c .before .before .before .before .before .before .before .before .before .before .before .standing .ensures) (c .before .before .before .before .before .before .before .before .before .run2 .given .1) in
+    omega (arith, h .0 .on, h .1 .0, h .1 .1 .there)
+
+loop-again-2 : tie.Need-loop-again-2 Inv-loop μ-loop
+loop-again-2 c =
+    let h = ran-lookup (c .before .before .before .before .before .before .before .before .before .before .before .before .before .before .before .args .bytes .now) (c .before .before .before .before .before .before .before .before .before .before .before .before .loop .at) (c .before .before .before .before .before .before .before .before .before .before .before .standing .ensures) (c .before .before .before .before .before .before .before .before .before .run2 .given .1) in
+    let g = went-on (c .before .before .before .before .before .before .before .before .before .before .before .before .loop .inv) (h .0) (c .before .before .before .before .before .before .copy-run2 .ensures) in
+    lookup-on _ g (h .1) (c .before .before .put-number2 .ensures)
+
+enum-known-run-3 : tie.Need-enum-known-run-3 Inv-loop μ-loop
+enum-known-run-3 c = search needs
+
+copy-run-requires-3 : tie.Need-copy-run-requires-3 Inv-loop μ-loop
+copy-run-requires-3 c κs = run-there (c .before .before .before .before .before .loop .inv) (ran-otherwise (c .before .before .before .before .before .before .before .before .args .bytes .now) (c .before .before .before .before .before .loop .at) (c .before .before .before .before .standing .ensures) (c .before .before .run3 .given .1)) (c .before .before .before .before .before .before .before .before .pre)
+
+same-length : tie.Need-same-length Inv-loop μ-loop
+same-length c = went-on (c .before .before .before .before .before .before .before .before .before .loop .inv) (ran-otherwise (c .before .before .before .before .before .before .before .before .before .before .before .before .args .bytes .now) (c .before .before .before .before .before .before .before .before .before .loop .at) (c .before .before .before .before .before .before .before .before .standing .ensures) (c .before .before .before .before .before .before .run3 .given .1)) (c .before .before .before .copy-run3 .ensures) .same
+
+returns : tie.Need-returns Inv-loop μ-loop
+returns c = going-end (went-on (c .before .before .before .before .before .before .before .before .before .loop .inv) (ran-otherwise (c .before .before .before .before .before .before .before .before .before .before .before .before .args .bytes .now) (c .before .before .before .before .before .before .before .before .before .loop .at) (c .before .before .before .before .before .before .before .before .standing .ensures) (c .before .before .before .before .before .before .run3 .given .1)) (c .before .before .before .copy-run3 .ensures)) (omega arith)
+
 respell-requires : tie.Need-respell-requires Inv-loop μ-loop
-respell-requires c κs = search needs
+respell-requires c κs =
+    let h = ran-otherwise (c .before .before .before .before .before .before .before .before .before .before .before .before .before .args .bytes .now) (c .before .before .before .before .before .before .before .before .before .before .loop .at) (c .before .before .before .before .before .before .before .before .before .standing .ensures) (c .before .before .before .before .before .before .before .run3 .given .1) in
+    omega (arith, h .there)
 
 enum-known-token : tie.Need-enum-known-token Inv-loop μ-loop
 enum-known-token c = search needs
 
-same-length : tie.Need-same-length Inv-loop μ-loop
-same-length c = search needs
+same-length-2 : tie.Need-same-length-2 Inv-loop μ-loop
+same-length-2 c = search needs
 
-returns : tie.Need-returns Inv-loop μ-loop
-returns c = stopped (c .before .before .before .before .before .before .before .before .loop .inv) (c .before .before .before .before .before .respell .ensures) (c .before .token .given .1)
+returns-2 : tie.Need-returns-2 Inv-loop μ-loop
+returns-2 c = stopped (went-on (c .before .before .before .before .before .before .before .before .before .before .before .before .before .before .before .before .loop .inv) (ran-otherwise (c .before .before .before .before .before .before .before .before .before .before .before .before .before .before .before .before .before .before .before .args .bytes .now) (c .before .before .before .before .before .before .before .before .before .before .before .before .before .before .before .before .loop .at) (c .before .before .before .before .before .before .before .before .before .before .before .before .before .before .before .standing .ensures) (c .before .before .before .before .before .before .before .before .before .before .before .before .before .run3 .given .1)) (c .before .before .before .before .before .before .before .before .before .before .copy-run3 .ensures)) (c .before .before .before .before .before .respell .ensures) (c .before .token .given .1)
 
 enum-known-token-2 : tie.Need-enum-known-token-2 Inv-loop μ-loop
 enum-known-token-2 c = search needs
 
 add-need : tie.Need-add-need Inv-loop μ-loop
 add-need c =
-    let t = turned (c .before .before .before .before .before .before .before .before .loop .inv) (c .before .before .before .before .before .respell .ensures) (c .before .token2 .given .1) in
-    omega (arith, t .1 .size, t .1 .spells .short, t .1 .spells .there)
+    let t = turned (went-on (c .before .before .before .before .before .before .before .before .before .before .before .before .before .before .before .before .loop .inv) (ran-otherwise (c .before .before .before .before .before .before .before .before .before .before .before .before .before .before .before .before .before .before .before .args .bytes .now) (c .before .before .before .before .before .before .before .before .before .before .before .before .before .before .before .before .loop .at) (c .before .before .before .before .before .before .before .before .before .before .before .before .before .before .before .standing .ensures) (c .before .before .before .before .before .before .before .before .before .before .before .before .before .run3 .given .1)) (c .before .before .before .before .before .before .before .before .before .before .copy-run3 .ensures)) (c .before .before .before .before .before .respell .ensures) (c .before .token2 .given .1) in
+    omega (arith, bounded (t .1) (c .before .before .before .before .before .before .before .before .before .before .before .before .before .before .before .before .before .before .before .pre))
 
-copy-run-requires : tie.Need-copy-run-requires Inv-loop μ-loop
-copy-run-requires c κs = turned (c .before .before .before .before .before .before .before .before .before .loop .inv) (c .before .before .before .before .before .before .respell .ensures) (c .before .before .token2 .given .1) .1 .spells .there
+loop-less-3 : tie.Need-loop-less-3 Inv-loop μ-loop
+loop-less-3 c =
+    let h = ran-otherwise (c .before .before .before .before .before .before .before .before .before .before .before .before .before .before .before .before .before .before .before .args .bytes .now) (c .before .before .before .before .before .before .before .before .before .before .before .before .before .before .before .before .loop .at) (c .before .before .before .before .before .before .before .before .before .before .before .before .before .before .before .standing .ensures) (c .before .before .before .before .before .before .before .before .before .before .before .before .before .run3 .given .1) in
+    let t = turned (went-on (c .before .before .before .before .before .before .before .before .before .before .before .before .before .before .before .before .loop .inv) h (c .before .before .before .before .before .before .before .before .before .before .copy-run3 .ensures)) (c .before .before .before .before .before .respell .ensures) (c .before .token2 .given .1) in
+    omega (arith, h .on, t .0, t .1 .spells .there)
 
-sub-need : tie.Need-sub-need Inv-loop μ-loop
-sub-need c = c .before .before .copy-run .ensures .spells .on
-
-add-need-2 : tie.Need-add-need-2 Inv-loop μ-loop
-add-need-2 c =
-    let t = turned (c .before .before .before .before .before .before .before .before .before .before .before .before .loop .inv) (c .before .before .before .before .before .before .before .before .before .respell .ensures) (c .before .before .before .before .before .token2 .given .1) in
-    let g = went-on (t .1) (c .before .before .copy-run .ensures) in
-    omega (arith, g .size, g .spells .short, g .spells .there)
-
-loop-less : tie.Need-loop-less Inv-loop μ-loop
-loop-less c =
-    let t = turned (c .before .before .before .before .before .before .before .before .before .before .before .before .loop .inv) (c .before .before .before .before .before .before .before .before .before .respell .ensures) (c .before .before .before .before .before .token2 .given .1) in
-    let k = c .before .before .copy-run .ensures .spells in
-    omega (arith, t .0, k .on, k .there)
-
-loop-again : tie.Need-loop-again Inv-loop μ-loop
-loop-again c =
-    let t = turned (c .before .before .before .before .before .before .before .before .before .before .before .before .loop .inv) (c .before .before .before .before .before .before .before .before .before .respell .ensures) (c .before .before .before .before .before .token2 .given .1) in
-    went-on (t .1) (c .before .before .copy-run .ensures)
-
-same-length-2 : tie.Need-same-length-2 Inv-loop μ-loop
-same-length-2 c = c .before .loop .inv .same
-
-returns-2 : tie.Need-returns-2 Inv-loop μ-loop
-returns-2 c = going-end (c .before .loop .inv) (c .loop-test .left)
+loop-again-3 : tie.Need-loop-again-3 Inv-loop μ-loop
+loop-again-3 c = turned (went-on (c .before .before .before .before .before .before .before .before .before .before .before .before .before .before .before .before .loop .inv) (ran-otherwise (c .before .before .before .before .before .before .before .before .before .before .before .before .before .before .before .before .before .before .before .args .bytes .now) (c .before .before .before .before .before .before .before .before .before .before .before .before .before .before .before .before .loop .at) (c .before .before .before .before .before .before .before .before .before .before .before .before .before .before .before .standing .ensures) (c .before .before .before .before .before .before .before .before .before .before .before .before .before .run3 .given .1)) (c .before .before .before .before .before .before .before .before .before .before .copy-run3 .ensures)) (c .before .before .before .before .before .respell .ensures) (c .before .token2 .given .1) .1
 
 pub pass-spec : {M : Type 1} → statement M
 pass-spec =
@@ -73,16 +124,27 @@ pass-spec =
     Inv-loop
     μ-loop
     loop-holds
-    respell-requires
-    enum-known-token
-    same-length
-    returns
-    enum-known-token-2
-    add-need
+    standing-requires
+    enum-known-run
     copy-run-requires
-    sub-need
-    add-need-2
+    put-number-requires
     loop-less
     loop-again
+    enum-known-run-2
+    copy-run-requires-2
+    cast-put-number
+    put-number-requires-2
+    loop-less-2
+    loop-again-2
+    enum-known-run-3
+    copy-run-requires-3
+    same-length
+    returns
+    respell-requires
+    enum-known-token
     same-length-2
-    returns-2)
+    returns-2
+    enum-known-token-2
+    add-need
+    loop-less-3
+    loop-again-3)

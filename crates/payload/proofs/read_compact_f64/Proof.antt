@@ -4,15 +4,15 @@ use borrow.Author.Needs.{needs}
 use Rattle.form.specs.Readers.{mapped}
 use Rattle.payload.specs.Answers.{u64Answer}
 use Rattle.payload.proofs.Laws.{gotOf, elseOf}
-use Rattle.payload.proofs.Padding.{at-most-7}
+use Rattle.payload.proofs.Cutting.{at-most-7}
 use Rattle.payload.proofs.read_compact_f64.Statement.{statement}
 use Rattle.payload.proofs.read_compact_f64.Tie as tie
 
 capped-requires : tie.Need-capped-requires
 capped-requires c κs = search needs
 
-read-padded-requires : tie.Need-read-padded-requires
-read-padded-requires c κs = rw (c .capped .ensures) (at-most-7 (c .before .before .args .width))
+read-few-requires : tie.Need-read-few-requires
+read-few-requires c κs = rw (c .capped .ensures) (at-most-7 (c .before .before .args .width))
 
 enum-known-r : tie.Need-enum-known-r
 enum-known-r c = search needs
@@ -25,25 +25,25 @@ refusal-requires c κs = search needs
 
 returns : tie.Need-returns
 unfolding mapped
-returns c = rw (sym (c .before .before .before .before .capped .ensures), elseOf u64Answer (c .before .before .before .read-padded .ensures) (c .before .enum-told .given .1) (c .refusal .ensures) refl)
+returns c = rw (sym (c .before .before .before .before .capped .ensures), elseOf u64Answer (c .before .before .before .read-few .ensures) (c .before .enum-told .given .1) (c .refusal .ensures) refl)
 
 negate-requires : tie.Need-negate-requires
 negate-requires c κs = search needs
 
 returns-2 : tie.Need-returns-2
 unfolding mapped
-returns-2 c = rw (sym (c .before .before .before .before .before .before .capped .ensures), gotOf u64Answer (c .before .before .before .before .before .read-padded .ensures) (c .before .before .before .r .given .1), c .before .if1 .taken, c .negate .ensures)
+returns-2 c = rw (sym (c .before .before .before .before .before .before .capped .ensures), gotOf u64Answer (c .before .before .before .before .before .read-few .ensures) (c .before .before .before .r .given .1), c .before .if1 .taken, c .negate .ensures)
 
 returns-3 : tie.Need-returns-3
 unfolding mapped
-returns-3 c = rw (sym (c .before .before .before .before .before .capped .ensures), gotOf u64Answer (c .before .before .before .before .read-padded .ensures) (c .before .before .r .given .1), c .if1 .left)
+returns-3 c = rw (sym (c .before .before .before .before .before .capped .ensures), gotOf u64Answer (c .before .before .before .before .read-few .ensures) (c .before .before .r .given .1), c .if1 .left)
 
 pub read-compact-f64-spec : {M : Type 1} → statement M
 read-compact-f64-spec =
     tie.close
     (tie.spec
     capped-requires
-    read-padded-requires
+    read-few-requires
     enum-known-r
     enum-told
     refusal-requires

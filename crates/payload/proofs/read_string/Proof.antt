@@ -2,9 +2,10 @@
 use Prim.Native.Nat.{ℕ}
 use mathlib.Core.Path.{refl, sym}
 use native.Mathlib.Omega.{arith}
-use lib.ListN.{length-drop}
+use lib.ListN.{length, drop, length-drop}
 use Rattle.form.specs.Readers.{placed}
 use Rattle.form.proofs.Places.{string-there, string-short, string-cut}
+use Rattle.split.proofs.Laws.{there, short}
 use Rattle.payload.specs.declared.answers.Text.{Text}
 use borrow.Author.Needs.{needs}
 use Rattle.payload.specs.Answers.{u64Answer}
@@ -31,24 +32,25 @@ returns : tie.Need-returns
 unfolding placed
 returns c = rw (string-cut _ _ (elseOf u64Answer (c .before .before .before .read-width .ensures) (c .before .enum-told .given .1) (c .refusal .ensures) refl))
 
-left-requires : tie.Need-left-requires
-left-requires c κs = search needs
+has-requires : tie.Need-has-requires
+has-requires c κs = search needs
 
 returns-2 : tie.Need-returns-2
 unfolding placed
 returns-2 c =
     let g = gotOf u64Answer (c .before .before .before .before .before .read-width .ensures) (c .before .before .before .r .given .1) in
-    rw (string-short _ _ g (omega arith))
+    rw (string-short _ _ g (short (c .before .has .ensures) (c .if1 .taken)))
 
 add-next : tie.Need-add-next
 add-next c =
-    let a = c .before .before .before .before .before .before .before .args in
-    omega (arith, length-drop (c .before .before .before .r .given .0 .1 .0) (a .bytes .now))
+    let s = c .before .before .before .before .before .before .before .args .bytes .now in
+    let start = c .before .before .before .r .given .0 .1 .0 in
+    omega (arith, length-drop start s, there {m = length (drop start s)} (c .before .has .ensures) (c .if1 .left))
 
 returns-3 : tie.Need-returns-3
 returns-3 c =
     let g = gotOf u64Answer (c .before .before .before .before .before .read-width .ensures) (c .before .before .before .r .given .1) in
-    sym (string-there textAt _ _ g (omega arith))
+    sym (string-there textAt _ _ g (there (c .before .has .ensures) (c .if1 .left)))
 
 pub read-string-spec : {M : Type 1} → statement M
 read-string-spec =
@@ -59,7 +61,7 @@ read-string-spec =
     enum-told
     refusal-requires
     returns
-    left-requires
+    has-requires
     returns-2
     add-next
     returns-3)

@@ -147,6 +147,15 @@ sub-width c = omega (arith, range-from _ (c .before .before .match .rest) (c .be
 cast-width : tie.Need-cast-width
 cast-width c = omega (arith, c .if2 .taken)
 
+sub-read-compact-f64 : tie.Need-sub-read-compact-f64
+sub-read-compact-f64 c = search needs
+
+part-read-compact-f64-start : tie.Need-part-read-compact-f64-start
+part-read-compact-f64-start c = search needs
+
+part-read-compact-f64-end : tie.Need-part-read-compact-f64-end
+part-read-compact-f64-end c = search needs
+
 read-compact-f64-requires : tie.Need-read-compact-f64-requires
 read-compact-f64-requires c κs = search needs
 
@@ -158,6 +167,15 @@ sub-width-2 c = search needs
 
 cast-width-2 : tie.Need-cast-width-2
 cast-width-2 c = omega (arith, c .if3 .taken)
+
+sub-read-compact-f64-2 : tie.Need-sub-read-compact-f64-2
+sub-read-compact-f64-2 c = search needs
+
+part-read-compact-f64-start-2 : tie.Need-part-read-compact-f64-start-2
+part-read-compact-f64-start-2 c = search needs
+
+part-read-compact-f64-end-2 : tie.Need-part-read-compact-f64-end-2
+part-read-compact-f64-end-2 c = search needs
 
 read-compact-f64-requires-2 : tie.Need-read-compact-f64-requires-2
 read-compact-f64-requires-2 c κs = search needs
@@ -248,16 +266,16 @@ returns-18 c = by-entry _ _ (lookup4-at (c .before .before .match .keys18)) (num
 returns-19 : tie.Need-returns-19
 unfolding entries table tokenOf
 returns-19 c =
-    let a = c .before .before .before .before .before .before .args in
-    by-entry _ _ (compact-at _ (c .before .before .before .before .match .rest) (c .before .before .before .if1 .left) (c .before .before .if2 .taken) ∙ compact-is _ _ false (c .before .before .if2 .taken))
-    (compact-from (a .bytes .now) (a .next) (a .id .0 - 0x0d47) false (c .before .read-compact-f64 .ensures) (c .f64-token2 .ensures))
+    let a = c .before .before .before .before .before .before .before .args in
+    by-entry _ _ (compact-at _ (c .before .before .before .before .before .match .rest) (c .before .before .before .before .if1 .left) (c .before .before .before .if2 .taken) ∙ compact-is _ _ false (c .before .before .before .if2 .taken))
+    (compact-from (a .bytes .now) (a .next) (a .id .0 - 0x0d47) false (rw (part-to-end (a .bytes .now) 0) at (c .before .read-compact-f64 .ensures)) (c .f64-token2 .ensures))
 
 returns-20 : tie.Need-returns-20
 unfolding entries table tokenOf
 returns-20 c =
-    let a = c .before .before .before .before .before .before .before .args in
-    by-entry _ _ (negated-at _ (c .before .before .before .before .before .match .rest) (c .before .before .before .if2 .left) (c .before .before .if3 .taken) ∙ compact-is _ _ true (c .before .before .if3 .taken))
-    (compact-from (a .bytes .now) (a .next) (a .id .0 - 0x0d4e) true (c .before .read-compact-f642 .ensures) (c .f64-token3 .ensures))
+    let a = c .before .before .before .before .before .before .before .before .args in
+    by-entry _ _ (negated-at _ (c .before .before .before .before .if2 .left) (c .before .before .before .if3 .taken) ∙ compact-is _ _ true (c .before .before .before .if3 .taken))
+    (compact-from (a .bytes .now) (a .next) (a .id .0 - 0x0d4e) true (rw (part-to-end (a .bytes .now) 0) at (c .before .read-compact-f642 .ensures)) (c .f64-token3 .ensures))
 
 returns-21 : tie.Need-returns-21
 unfolding entries table tokenOf
@@ -314,10 +332,16 @@ by-id-spec =
     lookup-token-requires-2
     sub-width
     cast-width
+    sub-read-compact-f64
+    part-read-compact-f64-start
+    part-read-compact-f64-end
     read-compact-f64-requires
     f64-token-requires-2
     sub-width-2
     cast-width-2
+    sub-read-compact-f64-2
+    part-read-compact-f64-start-2
+    part-read-compact-f64-end-2
     read-compact-f64-requires-2
     f64-token-requires-3
     returns

@@ -3,9 +3,12 @@ use Prim.Native.Nat.{ℕ}
 use mathlib.Core.Path.{refl, _∙_}
 use mathlib.Core.Option.{none, some}
 use mathlib.Core.List.{List, [], _∷_}
+use lib.Dec.{leb}
+use borrow.Author.Tests.{lt-leb}
 use Rattle.form.specs.Table.{table, entries, find, orPlain, after}
 use Rattle.form.proofs.Lookups.{arm}
-use Rattle.skip.proofs.Passing.{stepsOver, passed, passed-nothing, bare}
+use Rattle.skip.specs.Walks.{stepsOver}
+use Rattle.skip.proofs.Passing.{passed, passed-nothing, bare}
 use borrow.Author.Needs.{needs}
 use Rattle.skip.proofs.walk.skip_payload.Statement.{statement}
 use Rattle.skip.proofs.walk.skip_payload.Tie as tie
@@ -15,31 +18,25 @@ abbrev strings : List ℕ
 strings = 0x000f ∷ 0x0017 ∷ 0x0d5e ∷ []
 
 abbrev ones : List ℕ
-ones = 0x000e ∷ 0x0d40 ∷ 0x0d43 ∷ 0x0d48 ∷ 0x0d4f ∷ 0x0d5a ∷ []
+ones = 0x000e ∷ 0x0d40 ∷ 0x0d43 ∷ 0x0d5a ∷ []
 
 abbrev twos : List ℕ
-twos = 0x0d3e ∷ 0x0d44 ∷ 0x0d49 ∷ 0x0d50 ∷ 0x0d5b ∷ []
+twos = 0x0d3e ∷ 0x0d44 ∷ 0x0d5b ∷ []
 
 abbrev threes : List ℕ
-threes = 0x0d41 ∷ 0x0d45 ∷ 0x0d4a ∷ 0x0d51 ∷ 0x0d5c ∷ []
+threes = 0x0d41 ∷ 0x0d45 ∷ 0x0d5c ∷ []
 
 abbrev fours : List ℕ
-fours = 0x000c ∷ 0x0014 ∷ 0x0d3f ∷ 0x0d46 ∷ 0x0d4b ∷ 0x0d52 ∷ 0x0d5d ∷ []
+fours = 0x000c ∷ 0x0014 ∷ 0x0d3f ∷ 0x0d46 ∷ 0x0d5d ∷ []
 
 abbrev floats : List ℕ
 floats = 0x000d ∷ []
 
-abbrev fives : List ℕ
-fives = 0x0d4c ∷ 0x0d53 ∷ []
-
-abbrev sixes : List ℕ
-sixes = 0x0d4d ∷ 0x0d54 ∷ []
-
-abbrev sevens : List ℕ
-sevens = 0x0d4e ∷ 0x0d55 ∷ []
-
 abbrev eights : List ℕ
 eights = 0x0167 ∷ 0x029c ∷ 0x0317 ∷ []
+
+abbrev arms : List (List ℕ)
+arms = strings ∷ ones ∷ twos ∷ threes ∷ fours ∷ floats ∷ eights ∷ []
 
 string-requires : tie.Need-string-requires
 string-requires c κs = search needs
@@ -62,59 +59,51 @@ fixed-requires-5 c κs = search needs
 fixed-requires-6 : tie.Need-fixed-requires-6
 fixed-requires-6 c κs = search needs
 
-fixed-requires-7 : tie.Need-fixed-requires-7
-fixed-requires-7 c κs = search needs
-
-fixed-requires-8 : tie.Need-fixed-requires-8
-fixed-requires-8 c κs = search needs
-
-fixed-requires-9 : tie.Need-fixed-requires-9
-fixed-requires-9 c κs = search needs
-
 returns : tie.Need-returns
 unfolding after orPlain find entries table
-returns c = c .string .ensures ∙ passed _ _ _ none (arm stepsOver strings (refl, (refl, (refl, tt))) (c .before .match .keys1))
+returns c = passed-nothing _ _ _ (bare (leb 0x0d47) arms refl _ (c .before .match .rest) (lt-leb 0x0d47 _ (c .if1 .taken)))
 
 returns-2 : tie.Need-returns-2
 unfolding after orPlain find entries table
-returns-2 c = c .fixed .ensures ∙ passed _ _ _ (some 1) (arm stepsOver ones (refl, (refl, (refl, (refl, (refl, (refl, tt)))))) (c .before .match .keys2))
+returns-2 c =
+    passed-nothing _ _ _ (bare (λ i. leb i 0x0d55) arms refl _ (c .before .before .match .rest) (lt-leb _ 0x0d55 (c .if2 .taken)))
+
+compact-width-requires : tie.Need-compact-width-requires
+compact-width-requires c κs = (c .before .if1 .left, c .if2 .left)
+
+fixed-requires-7 : tie.Need-fixed-requires-7
+fixed-requires-7 c κs = search needs
 
 returns-3 : tie.Need-returns-3
 unfolding after orPlain find entries table
-returns-3 c = c .fixed2 .ensures ∙ passed _ _ _ (some 2) (arm stepsOver twos (refl, (refl, (refl, (refl, (refl, tt))))) (c .before .match .keys3))
+returns-3 c = c .string .ensures ∙ passed _ _ _ none (arm stepsOver strings (refl, (refl, (refl, tt))) (c .before .match .keys1))
 
 returns-4 : tie.Need-returns-4
 unfolding after orPlain find entries table
-returns-4 c = c .fixed3 .ensures ∙ passed _ _ _ (some 3) (arm stepsOver threes (refl, (refl, (refl, (refl, (refl, tt))))) (c .before .match .keys4))
+returns-4 c = c .fixed .ensures ∙ passed _ _ _ (some 1) (arm stepsOver ones (refl, (refl, (refl, (refl, tt)))) (c .before .match .keys2))
 
 returns-5 : tie.Need-returns-5
 unfolding after orPlain find entries table
-returns-5 c = c .fixed4 .ensures ∙ passed _ _ _ (some 4) (arm stepsOver fours (refl, (refl, (refl, (refl, (refl, (refl, (refl, tt))))))) (c .before .match .keys5))
+returns-5 c = c .fixed2 .ensures ∙ passed _ _ _ (some 2) (arm stepsOver twos (refl, (refl, (refl, tt))) (c .before .match .keys3))
 
 returns-6 : tie.Need-returns-6
 unfolding after orPlain find entries table
-returns-6 c = c .fixed5 .ensures ∙ passed _ _ _ (some 4) (arm stepsOver floats (refl, tt) (c .before .match .keys6))
+returns-6 c = c .fixed3 .ensures ∙ passed _ _ _ (some 3) (arm stepsOver threes (refl, (refl, (refl, tt))) (c .before .match .keys4))
 
 returns-7 : tie.Need-returns-7
 unfolding after orPlain find entries table
-returns-7 c = c .fixed6 .ensures ∙ passed _ _ _ (some 5) (arm stepsOver fives (refl, (refl, tt)) (c .before .match .keys7))
+returns-7 c = c .fixed4 .ensures ∙ passed _ _ _ (some 4) (arm stepsOver fours (refl, (refl, (refl, (refl, (refl, tt))))) (c .before .match .keys5))
 
 returns-8 : tie.Need-returns-8
 unfolding after orPlain find entries table
-returns-8 c = c .fixed7 .ensures ∙ passed _ _ _ (some 6) (arm stepsOver sixes (refl, (refl, tt)) (c .before .match .keys8))
+returns-8 c = c .fixed5 .ensures ∙ passed _ _ _ (some 4) (arm stepsOver floats (refl, tt) (c .before .match .keys6))
 
 returns-9 : tie.Need-returns-9
 unfolding after orPlain find entries table
-returns-9 c = c .fixed8 .ensures ∙ passed _ _ _ (some 7) (arm stepsOver sevens (refl, (refl, tt)) (c .before .match .keys9))
+returns-9 c = c .fixed6 .ensures ∙ passed _ _ _ (some 8) (arm stepsOver eights (refl, (refl, (refl, tt))) (c .before .match .keys7))
 
 returns-10 : tie.Need-returns-10
-unfolding after orPlain find entries table
-returns-10 c = c .fixed9 .ensures ∙ passed _ _ _ (some 8) (arm stepsOver eights (refl, (refl, (refl, tt))) (c .before .match .keys10))
-
-returns-11 : tie.Need-returns-11
-unfolding after orPlain find entries table
-returns-11 c =
-    passed-nothing _ _ _ (bare (strings ∷ ones ∷ twos ∷ threes ∷ fours ∷ floats ∷ fives ∷ sixes ∷ sevens ∷ eights ∷ []) refl _ (c .match .rest))
+returns-10 c = c .fixed7 .ensures ∙ passed _ _ _ (some _) (c .before .compact-width .ensures)
 
 pub skip-payload-spec : {M : Type 1} → statement M
 skip-payload-spec =
@@ -127,11 +116,10 @@ skip-payload-spec =
     fixed-requires-4
     fixed-requires-5
     fixed-requires-6
-    fixed-requires-7
-    fixed-requires-8
-    fixed-requires-9
     returns
     returns-2
+    compact-width-requires
+    fixed-requires-7
     returns-3
     returns-4
     returns-5
@@ -139,5 +127,4 @@ skip-payload-spec =
     returns-7
     returns-8
     returns-9
-    returns-10
-    returns-11)
+    returns-10)

@@ -1,4 +1,4 @@
--- `normaliser::standing::stands` meets its contract. Assumes nothing.
+-- `normaliser::spelling::spell` meets its contract. Assumes nothing.
 use borrow.Author.Needs.{needs}
 use mathlib.Core.Path.{refl}
 use mathlib.Core.List.{List, [], _∷_}
@@ -7,15 +7,15 @@ use Rattle.form.specs.Values.{kind}
 use Rattle.form.specs.Table.{table, entries, find, orPlain, after}
 use Rattle.form.specs.Ids.{sample, alike, findId, idOf}
 use Rattle.form.specs.Spelling.{tag, body, writable, wide}
-use Rattle.form.proofs.Standing.{KeptNumber, KeptText, KeptColour, of-one, Kept, fours, fours-kept, floats, floats-kept, eights, eights-kept, threes, threes-kept, truths, truths-kept, texts, texts-kept, colours, colours-kept}
+use Rattle.form.proofs.Standing.{KeptNumber, KeptText, KeptColour, of-one, Kept, fours, fours-kept, floats, floats-kept, eights, eights-kept, truths, truths-kept, texts, texts-kept, colours, colours-kept}
 use Rattle.payload.specs.Answers.{idAnswer}
 use Rattle.payload.proofs.Laws.{gotOf}
-use Rattle.normaliser.proofs.Runs.{number-arm, text-arm, colour-arm, alone-arm, alone-below, alone-above}
-use Rattle.normaliser.proofs.standing.stands.Statement.{statement}
-use Rattle.normaliser.proofs.standing.stands.Tie as tie
+use Rattle.normaliser.proofs.Spelled.{number-arm, text-arm, colour-arm, alone-arm, alone-below, alone-above}
+use Rattle.normaliser.proofs.spelling.spell.Statement.{statement}
+use Rattle.normaliser.proofs.spelling.spell.Tie as tie
 
 abbrev arms : List (List ℕ)
-arms = texts ∷ fours ∷ floats ∷ eights ∷ threes ∷ truths ∷ colours ∷ []
+arms = texts ∷ fours ∷ floats ∷ eights ∷ truths ∷ colours ∷ []
 
 read-id-requires : tie.Need-read-id-requires
 read-id-requires c κs = search needs
@@ -41,9 +41,6 @@ fixed-requires-2 c κs = search needs
 fixed-requires-3 : tie.Need-fixed-requires-3
 fixed-requires-3 c κs = search needs
 
-fixed-requires-4 : tie.Need-fixed-requires-4
-fixed-requires-4 c κs = search needs
-
 truth-requires : tie.Need-truth-requires
 truth-requires c κs = search needs
 
@@ -61,6 +58,9 @@ unfolding after orPlain find entries table tag body wide kind writable idOf find
 returns-3 c =
     let a = c .before .before .before .before .before .before .before .before .args in
     alone-arm (a .bytes .now) (c .before .before .before .before .before .before .before .shared-slice-known .given) (a .at) (gotOf idAnswer (c .before .before .before .before .before .before .read-id .ensures) (c .before .before .before .before .read .given .1)) (alone-above arms refl _ (c .before .before .match2 .rest) (c .if2 .taken))
+
+among-lookups-requires : tie.Need-among-lookups-requires
+among-lookups-requires c κs = search needs
 
 returns-4 : tie.Need-returns-4
 returns-4 c =
@@ -85,23 +85,18 @@ returns-7 c =
 returns-8 : tie.Need-returns-8
 returns-8 c =
     let a = c .before .before .before .before .before .before .before .args in
-    number-arm (a .bytes .now) (c .before .before .before .before .before .before .shared-slice-known .given) (a .at) (gotOf idAnswer (c .before .before .before .before .before .read-id .ensures) (c .before .before .before .read .given .1)) (of-one (Kept 3) threes threes-kept (c .before .match2 .keys5)) (c .fixed4 .result) (c .fixed4 .ensures)
+    number-arm (a .bytes .now) (c .before .before .before .before .before .before .shared-slice-known .given) (a .at) (gotOf idAnswer (c .before .before .before .before .before .read-id .ensures) (c .before .before .before .read .given .1)) (of-one (KeptNumber 1 2) truths truths-kept (c .before .match2 .keys5)) (c .truth .result) (c .truth .ensures)
 
 returns-9 : tie.Need-returns-9
 returns-9 c =
     let a = c .before .before .before .before .before .before .before .args in
-    number-arm (a .bytes .now) (c .before .before .before .before .before .before .shared-slice-known .given) (a .at) (gotOf idAnswer (c .before .before .before .before .before .read-id .ensures) (c .before .before .before .read .given .1)) (of-one (KeptNumber 1 2) truths truths-kept (c .before .match2 .keys6)) (c .truth .result) (c .truth .ensures)
+    colour-arm (a .bytes .now) (c .before .before .before .before .before .before .shared-slice-known .given) (a .at) (gotOf idAnswer (c .before .before .before .before .before .read-id .ensures) (c .before .before .before .read .given .1)) (of-one KeptColour colours colours-kept (c .before .match2 .keys6)) (c .colour .result) (c .colour .ensures)
 
 returns-10 : tie.Need-returns-10
-returns-10 c =
-    let a = c .before .before .before .before .before .before .before .args in
-    colour-arm (a .bytes .now) (c .before .before .before .before .before .before .shared-slice-known .given) (a .at) (gotOf idAnswer (c .before .before .before .before .before .read-id .ensures) (c .before .before .before .read .given .1)) (of-one KeptColour colours colours-kept (c .before .match2 .keys7)) (c .colour .result) (c .colour .ensures)
+returns-10 c = c .among-lookups .ensures _ (gotOf idAnswer (c .before .before .before .before .before .before .before .read-id .ensures) (c .before .before .before .before .before .read .given .1))
 
-returns-11 : tie.Need-returns-11
-returns-11 c = tt
-
-pub stands-spec : {M : Type 1} → statement M
-stands-spec =
+pub spell-spec : {M : Type 1} → statement M
+spell-spec =
     tie.close
     (tie.spec
     read-id-requires
@@ -112,16 +107,15 @@ stands-spec =
     fixed-requires
     fixed-requires-2
     fixed-requires-3
-    fixed-requires-4
     truth-requires
     colour-requires
     returns-2
     returns-3
+    among-lookups-requires
     returns-4
     returns-5
     returns-6
     returns-7
     returns-8
     returns-9
-    returns-10
-    returns-11)
+    returns-10)

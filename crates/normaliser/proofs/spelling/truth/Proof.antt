@@ -1,10 +1,10 @@
--- `normaliser::standing::truth` meets its contract. Assumes nothing.
+-- `normaliser::spelling::truth` meets its contract. Assumes nothing.
 use borrow.Author.Needs.{needs}
 use native.Mathlib.Omega.{arith}
 use Rattle.payload.specs.Answers.{u8Answer}
 use Rattle.payload.proofs.Laws.{gotOf}
-use Rattle.normaliser.proofs.standing.truth.Statement.{statement}
-use Rattle.normaliser.proofs.standing.truth.Tie as tie
+use Rattle.normaliser.proofs.spelling.truth.Statement.{statement}
+use Rattle.normaliser.proofs.spelling.truth.Tie as tie
 
 read-lookup-u8-requires : tie.Need-read-lookup-u8-requires
 read-lookup-u8-requires c κs = search needs

@@ -1,10 +1,10 @@
--- `normaliser::standing::colour` meets its contract. Assumes nothing.
+-- `normaliser::spelling::colour` meets its contract. Assumes nothing.
 use borrow.Author.Needs.{needs}
 use borrow.Rule.Slice.PartAt.{part-to-end}
 use Rattle.payload.specs.Answers.{rgbAnswer}
 use Rattle.payload.proofs.Laws.{gotOf}
-use Rattle.normaliser.proofs.standing.colour.Statement.{statement}
-use Rattle.normaliser.proofs.standing.colour.Tie as tie
+use Rattle.normaliser.proofs.spelling.colour.Statement.{statement}
+use Rattle.normaliser.proofs.spelling.colour.Tie as tie
 
 sub-read-rgb : tie.Need-sub-read-rgb
 sub-read-rgb c = search needs

@@ -1,10 +1,10 @@
--- `normaliser::standing::string` meets its contract. Assumes nothing.
+-- `normaliser::spelling::string` meets its contract. Assumes nothing.
 use borrow.Author.Needs.{needs}
 use Rattle.payload.specs.Answers.{textAnswer, textOf}
 use Rattle.payload.proofs.Laws.{gotOf}
-use Rattle.normaliser.proofs.Runs.{text-read}
-use Rattle.normaliser.proofs.standing.string.Statement.{statement}
-use Rattle.normaliser.proofs.standing.string.Tie as tie
+use Rattle.normaliser.proofs.Spelled.{text-read}
+use Rattle.normaliser.proofs.spelling.string.Statement.{statement}
+use Rattle.normaliser.proofs.spelling.string.Tie as tie
 
 read-string-requires : tie.Need-read-string-requires
 read-string-requires c κs = search needs

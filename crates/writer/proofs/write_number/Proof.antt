@@ -1,0 +1,45 @@
+-- `writer::write_number` meets its contract. Assumes nothing.
+use borrow.Author.Needs.{needs}
+use native.Mathlib.Omega.{arith}
+use denote.Ref.{now}
+use Rattle.writer.specs.Parts.{idNumber}
+use Rattle.writer.proofs.Judging.{not-stored, room, stored}
+use Rattle.writer.proofs.Sizes.{number-size}
+use Rattle.writer.proofs.write_number.Statement.{statement}
+use Rattle.writer.proofs.write_number.Tie as tie
+
+add-fit : tie.Need-add-fit
+add-fit c = search needs
+
+fit-requires : tie.Need-fit-requires
+fit-requires c κs = search needs
+
+enum-told : tie.Need-enum-told
+enum-told c = search needs
+
+returns : tie.Need-returns
+returns c =
+    let a = c .before .before .before .args in
+    not-stored (now (a .out)) (idNumber (a .id .0) (a .width) (a .x)) (c .before .fit .result) (number-size (a .id .0) (a .width) (a .x)) (c .before .fit .ensures) (c .match .keys2)
+
+id-number-requires : tie.Need-id-number-requires
+id-number-requires c κs =
+    let k = c .before .before .before in
+    let a = k .before .before .args in
+    let e = number-size (a .id .0) (a .width) (a .x) in
+    omega (arith, e, room (now (a .out)) (idNumber (a .id .0) (a .width) (a .x)) (k .fit .result) e (k .fit .ensures) (c .before .enum-told .given .1))
+
+same-length : tie.Need-same-length
+same-length c = search needs
+
+returns-2 : tie.Need-returns-2
+returns-2 c =
+    let k = c .before .before .before .before .before .before in
+    let a = k .before .before .args in
+    stored (now (a .out)) (idNumber (a .id .0) (a .width) (a .x)) (k .fit .result) (number-size (a .id .0) (a .width) (a .x)) (k .fit .ensures)
+    (c .before .before .before .before .enum-told .given .1) (c .before .before .id-number .ensures)
+
+pub write-number-spec : {M : Type 1} → statement M
+write-number-spec =
+    tie.close
+    (tie.spec add-fit fit-requires enum-told returns id-number-requires same-length returns-2)
