@@ -5,8 +5,9 @@ use std::path::PathBuf;
 
 const USAGE: &str = "bench [--rounds N] [--write FILE] [--callgrind]
   --rounds N    rounds, of which each measures every row on both sides (default 15)
-  --write FILE  replaces what stands between <!-- bench --> and <!-- /bench --> in FILE
-  --callgrind   counts instructions instead (needs valgrind)";
+  --callgrind   counts instructions instead (needs valgrind)
+  --write FILE  replaces the table between <!-- times --> and <!-- /times --> in FILE, or between <!-- instructions -->
+                and <!-- /instructions -->";
 
 pub enum Mode {
     Time,

@@ -4,7 +4,7 @@ use crate::work::{Side, Work};
 use std::fmt::Write;
 use std::process::Command;
 
-const HEAD: &str = "| Call | Save | Port, instructions | Original, instructions | Port / original |
+const HEAD: &str = "| Call | Save | Port, instructions a token | Original, instructions a token | Port / original |
 |---|---|---|---|---|
 ";
 
@@ -13,8 +13,16 @@ pub fn table() -> Result<String, String> {
     for (number, work) in Work::all().enumerate() {
         let [port, original] = Side::ALL.map(|side| instructions(side, number));
         let (port, original) = (port?, original?);
-        let (task, flavour, ratio) = (work.task.name(), work.flavour.name(), port as f64 / original as f64);
-        writeln!(table, "| {task} | {flavour} | {port} | {original} | {ratio:.2} |").expect("a string takes any text");
+        let tokens = original::count_tokens(&work.input()).words[1] as f64;
+        let [port, original] = [port as f64, original as f64];
+        let cells = [
+            work.task.name().to_string(),
+            work.flavour.name().to_string(),
+            format!("{:.1}", port / tokens),
+            format!("{:.1}", original / tokens),
+            format!("{:.2}", port / original),
+        ];
+        writeln!(table, "| {} |", cells.join(" | ")).expect("a string takes any text");
     }
     Ok(table)
 }

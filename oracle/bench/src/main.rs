@@ -21,17 +21,17 @@ fn main() -> ExitCode {
 }
 
 fn run(arguments: &Arguments) -> Result<(), String> {
-    let table = match arguments.mode {
+    let (name, table) = match arguments.mode {
         Mode::Once(side, work) => {
             work::once(side, work);
             return Ok(());
         }
-        Mode::Callgrind => callgrind::table()?,
-        Mode::Time => table::times(&measure::all(arguments.rounds)),
+        Mode::Callgrind => ("instructions", callgrind::table()?),
+        Mode::Time => ("times", table::times(&measure::all(arguments.rounds))),
     };
     print!("{table}");
     match &arguments.write {
-        Some(file) => table::write(file, &table),
+        Some(file) => table::write(file, name, &table),
         None => Ok(()),
     }
 }

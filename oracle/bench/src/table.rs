@@ -46,9 +46,9 @@ fn median(numbers: &[f64]) -> f64 {
     if sorted.len().is_multiple_of(2) { (sorted[middle - 1] + sorted[middle]) / 2.0 } else { sorted[middle] }
 }
 
-/// Replaces what stands between the page's two marks.
-pub fn write(file: &Path, table: &str) -> Result<(), String> {
-    let (from, to) = ("<!-- bench -->", "<!-- /bench -->");
+/// Replaces what stands between the two marks of this name in the page.
+pub fn write(file: &Path, name: &str, table: &str) -> Result<(), String> {
+    let (from, to) = (&*format!("<!-- {name} -->"), &*format!("<!-- /{name} -->"));
     let fault = |what: String| format!("{}: {what}", file.display());
     let page = fs::read_to_string(file).map_err(|error| fault(error.to_string()))?;
     let parts = page.split_once(from).and_then(|(before, rest)| Some((before, rest.split_once(to)?.1)));
