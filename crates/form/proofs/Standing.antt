@@ -3,7 +3,6 @@ use Prim.Native.Nat.{ℕ, zero, suc, _+_, _^_, _≤_, _<_, zero-le}
 use native.Mathlib.Omega.{arith}
 use mathlib.Core.Path.{_≡_, refl, sym, ap, _∙_}
 use mathlib.Core.Bool.{Bool, true, false, not, _&&_}
-use mathlib.Core.Option.{none, some}
 use mathlib.Core.List.{List, [], _∷_, _++_}
 use mathlib.Core.Logic.{inl, inr}
 use lib.ListN.{length, take, drop, length-drop}
@@ -14,7 +13,7 @@ use borrow.Author.Tests.{le-leb, lt-ltb, eqb-true, eq-eqb, ne-eqb}
 use mir.Syntax.{w32, w64}
 use mir.ValLaws.{ofZ-toZ}
 use Rattle.form.specs.Numbers.{pick, le, leBytes, Bytes}
-use Rattle.form.specs.Values.{Value, U32, U64, F32, F64, Lookup, Quoted, Unquoted, Rgb, signed32, signed64, nonzero, kind}
+use Rattle.form.specs.Values.{Value, U32, U64, F32, F64, Lookup, Quoted, Unquoted, signed32, signed64, nonzero, kind}
 use Rattle.form.specs.Table.{Payload, number, text, colour, table, entries, find, orPlain, after, reserved}
 use Rattle.form.specs.Ids.{sample, alike, findId, idOf, OPEN, CLOSE, CHANNEL}
 use Rattle.form.specs.Refusals.{Fault}

@@ -32,7 +32,7 @@ use Rattle.normaliser.specs.declared.spelling.Spelling.{Spelling}
 use Rattle.normaliser.specs.declared.spelling.Spelling.the-variants.{Stands, F64, Lookup, Otherwise}
 use Rattle.normaliser.specs.declared.spelling.Run.{Run}
 use Rattle.normaliser.specs.declared.spelling.Run.the-variants as R
-use Rattle.normaliser.specs.Parts.{gives, rest, between, Spells}
+use Rattle.normaliser.specs.Parts.{gives, rest, between}
 use Rattle.normaliser.specs.Spellings.{Below, Within, Floats, Indexes, Token, Spelt, Stand, Ran}
 use Rattle.normaliser.proofs.Parts.{gives-then, spells-then, spells-none, between-then, between-none}
 

@@ -4,7 +4,6 @@ use native.Mathlib.Omega.{arith}
 use mathlib.Core.Path.{_≡_, sym, ap, _∙_}
 use mathlib.Core.List.{[]}
 use denote.Ref.{now}
-use lib.ListN.{length}
 use Rattle.normaliser.specs.Parts.{between}
 use Rattle.normaliser.proofs.Parts.{between-length, between-none}
 use Rattle.normaliser.proofs.Passing.{appends, appends-none}
