@@ -14,6 +14,7 @@ sample (number w f) = f 0
 sample (text f) = f []
 sample colour = Rgb 0 0 0 none
 
+-- the bytes that it has at least
 abbrev pub width : Payload → ℕ
 width (number w f) = w
 width (text f) = 2
@@ -32,7 +33,7 @@ findId [] q = 0
 findId (ks is p ∷ es) q = pick (alike p q) (first ks) (findId es q)
 findId (lo to hi is p ∷ es) q = findId es q
 
--- the first id of the table with such a payload
+-- the first id of the table, its ranges left out, with such a payload; 0 where there is none
 unfoldable pub idOf : Payload → ℕ
 idOf q = findId entries q
 

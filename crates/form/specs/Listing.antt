@@ -71,7 +71,7 @@ countWords c =
 unfoldable pub endLine : ℕ → Counts → List ℕ
 endLine n c = line (ascii "end") (decimal n ∷ countWords c)
 
--- the word for a refusal: Eof, InvalidRgb, or NotEncodable, which is of a lookup
+-- the word for a refusal: Eof, InvalidRgb, or NotEncodable, which is of a lookup; no other is shown
 unfoldable pub refusalWord : Refusal → String
 refusalWord r = pick (eqb (refusalNumber r) 1) "eof" (pick (eqb (refusalNumber r) 2) "rgb" "wide")
 

@@ -13,7 +13,7 @@ unfoldable pub le : List ℕ → ℕ
 le [] = 0
 le (b ∷ s) = b + 256 * le s
 
--- the w bytes that spell n, the lowest first
+-- the low w bytes of n, the lowest first: they spell it where it fits
 unfoldable pub leBytes : ℕ → ℕ → List ℕ
 leBytes zero n = []
 leBytes (suc w) n = n % 256 ∷ leBytes w (n / 256)

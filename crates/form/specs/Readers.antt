@@ -4,7 +4,7 @@ use mathlib.Core.List.{List}
 use lib.ListN.{drop}
 use Rattle.form.specs.Refusals.{Fault}
 
--- what was found and how many bytes it took; or what is wrong
+-- what was found and how many bytes it took, or, of a reading at a place, the place after it; or what is wrong
 pub data Answer (A : Type 0) : Type 0 where
   found : A → ℕ → Answer A
   refused : Fault → Answer A

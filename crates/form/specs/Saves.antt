@@ -35,11 +35,13 @@ values done = []
 values (cut r) = []
 values (then p n v w) = v ∷ values w
 
+-- read to its end
 unfoldable pub whole : Walk → Bool
 whole done = true
 whole (cut r) = false
 whole (then p n v w) = whole w
 
+-- the tokens of a save, up to the first that is refused
 unfoldable pub tokens : List ℕ → List Value
 tokens s = values (walk s)
 
@@ -47,6 +49,7 @@ unfoldable pub spellAll : List Value → List ℕ
 spellAll [] = []
 spellAll (v ∷ vs) = spell v ++ spellAll vs
 
+-- the normal form of a clean save: its tokens in order, each as it is spelled
 unfoldable pub normal : List ℕ → List ℕ
 normal s = spellAll (tokens s)
 

@@ -12,7 +12,7 @@ use Rattle.form.specs.Values.{Value, Open, Close, Equal, U32, U64, F32, 
 use Rattle.form.specs.Table.{number, text, colour, nothing, reserved}
 use Rattle.form.specs.Ids.{idOf, OPEN, CLOSE, CHANNEL}
 
--- the id: the first of the table with the value's kind and width
+-- the id that Token::write gives: of a lookup that of three bytes, of a float of 64 bits that of eight
 unfoldable pub tag : Value → ℕ
 tag Open = idOf (nothing Open)
 tag Close = idOf (nothing Close)

@@ -150,8 +150,8 @@ fn among_lookups(bytes: &[u8], at: usize, n: u16) -> Spelling
     }
 }
 
-// How the token at a place is spelled. As in `skip`, the arms are single numbers, no two of which are neighbours, and there is one caller: so it compiles
-// to jump tables in the caller's loop.
+// How the token at a place is spelled. As in `skip`, no arm has two neighbouring numbers, and there is one caller: so it compiles to jump
+// tables in the caller's loop.
 fn spell(bytes: &[u8], at: usize) -> Spelling
     ensures { λ r. ⌜ Spelt (now (bytes .entry)) at r ⌝ }
 {

@@ -39,7 +39,7 @@ abbrev pub faultOf : LexError → Fault
 faultOf Eof = tooShort
 faultOf InvalidRgb = badColour
 
--- why a read was refused, where it was
+-- why a read was refused; badColour where it was not
 abbrev pub why : {A : Type 0} → Answer A → Fault
 why (found a n) = badColour
 why (refused e) = e

@@ -34,7 +34,7 @@ pub enum ReadU8 {
 }
 
 impl ReadU8 {
-    // Why the read was refused, where it was.
+    // Why the read was refused; InvalidRgb where it was not.
     pub fn refusal(self) -> LexError
         ensures { λ r. ⌜ faultOf r ≡ why (u8Answer self) ⌝ }
     {

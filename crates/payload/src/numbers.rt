@@ -12,7 +12,7 @@ use crate::answers::LexError;
 use crate::answers::ReadU32;
 use crate::answers::ReadU64;
 
-// The little-endian number of width bytes at a place, highest byte first.
+// The little-endian number of width bytes at a place, built from the highest byte down.
 pub(crate) fn spelled(bytes: &[u8], at: usize, width: usize) -> u64
     requires { ⌜ (width ≤ 8) × (width ≤ length (drop at (now bytes))) ⌝ }
     ensures { λ r. ⌜ r ≡ le (take width (drop at (now (bytes .entry)))) ⌝ }

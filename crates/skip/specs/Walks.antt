@@ -34,7 +34,7 @@ leads s p (On n d) = walkFrom d s n
 leads s p (Out n) = past n
 leads s p Short = stopped tooShort p
 
--- how far a turn from place p goes: the depth stays below half the place, after the next id too
+-- how far a turn from place p goes: the depth is at most half the place after the next id
 abbrev pub Moves : ℕ → Turn → Type 0
 Moves p (On n d) = (p ≤ n) × (1 ≤ d) × (2 * d ≤ n + 2)
 Moves p (Out n) = Unit {0}

@@ -57,8 +57,8 @@ fn compact_width(n: u16) -> usize
     if offset <= 7 { offset } else { offset - 7 }
 }
 
-// Past the payload of an id, where a colour's id stands alone. It has one caller, and its arms are single numbers no two of
-// which are neighbours, so that it compiles to jump tables in the caller's loop. The compact numbers come last, by their width.
+// Past the payload of an id, where a colour's id stands alone. It has one caller, and no arm has two neighbouring numbers, so that it
+// compiles to jump tables in the caller's loop. The compact numbers come last, by their width.
 fn skip_payload(bytes: &[u8], at: usize, id: LexemeId) -> Passed
     ensures { λ r. ⌜ passedAnswer r ≡ passing (id .0) (now (bytes .entry)) at ⌝ }
 {

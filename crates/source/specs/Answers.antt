@@ -91,10 +91,11 @@ rgbAnswer (C.Refused x) buffer = stopAnswer x buffer
 
 -- ---- what is done with a refusal
 
--- the refusal of an answer, where it is one
+-- what stands for a refusal where there is none: no caller sees it
 abbrev pub stopFor : ParserSource → Stop
 stopFor s = record { error = InvalidRgb 0; next = s }
 
+-- the refusal of an answer
 abbrev pub ensuredStop : Ensured → Stop
 ensuredStop (E.Ready s) = stopFor s
 ensuredStop (E.Refused x) = x

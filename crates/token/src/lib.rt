@@ -52,7 +52,7 @@ pub enum ReadToken {
 }
 
 impl ReadToken {
-    // Why the read was refused, where it was.
+    // Why the read was refused; InvalidRgb where it was not.
     pub fn refusal(self) -> LexError
         ensures { λ r. ⌜ faultOf r ≡ why (tokenAnswer self) ⌝ }
     {

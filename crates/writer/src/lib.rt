@@ -1,4 +1,4 @@
-// The checked writer: one token at the front of a lent output, or bytes that are spelled already.
+// The checked writer: one token at the front of a lent output, or bytes that are spelled already, or an id and a number.
 mod parts;
 mod put;
 

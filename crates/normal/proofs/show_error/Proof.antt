@@ -6,17 +6,17 @@ use borrow.Author.Needs.{needs}
 use Rattle.normal.proofs.show_error.Statement.{statement}
 use Rattle.normal.proofs.show_error.Tie as tie
 
-slice-aggregate-put-error : tie.Need-slice-aggregate-put-error
-slice-aggregate-put-error c = search needs
+slice-aggregate-put-refusal : tie.Need-slice-aggregate-put-refusal
+slice-aggregate-put-refusal c = search needs
 
-put-error-requires : tie.Need-put-error-requires
-put-error-requires c κs = search needs
+put-refusal-requires : tie.Need-put-refusal-requires
+put-refusal-requires c κs = search needs
 
 array-share-prefix-line : tie.Need-array-share-prefix-line
 array-share-prefix-line c = search needs
 
 slice-aggregate-write-all : tie.Need-slice-aggregate-write-all
-slice-aggregate-write-all c = sym (length-take-le _ _ (omega (arith, c .before .before .before .put-error .ensures .same)))
+slice-aggregate-write-all c = sym (length-take-le _ _ (omega (arith, c .before .before .before .put-refusal .ensures .same)))
 
 write-all-requires : tie.Need-write-all-requires
 write-all-requires c κs = search needs
@@ -31,8 +31,8 @@ pub show-error-spec : {M : Type 1} → statement M
 show-error-spec =
     tie.close
     (tie.spec
-    slice-aggregate-put-error
-    put-error-requires
+    slice-aggregate-put-refusal
+    put-refusal-requires
     array-share-prefix-line
     slice-aggregate-write-all
     write-all-requires
