@@ -1,5 +1,6 @@
 //! What is measured.
 
+use original::FAST_WINDOW;
 use protocol::{Answer, Call, WORDS, code};
 use saves::{Flavour, Plan, Rng, narrow, save};
 use std::hint::black_box;
@@ -59,8 +60,6 @@ pub struct Work {
 
 const SIZE: usize = 1 << 20;
 const LONGEST_TEXT: usize = 500;
-/// The original's shortest window for the fast step.
-const WINDOW: usize = 16;
 
 impl Work {
     pub fn all() -> impl Iterator<Item = Work> {
@@ -97,7 +96,7 @@ pub fn agreed(work: Work, bytes: &[u8], out: &mut [u8]) -> bool {
     let done = match work.task {
         Task::Read | Task::Skip => words[0] == end,
         Task::Normalise => words[0] >= end,
-        Task::Fast => words[0] + (WINDOW as u64) > end,
+        Task::Fast => words[0] + (FAST_WINDOW as u64) > end,
     };
     port == original && code == code::ANSWERED && done
 }
@@ -137,5 +136,6 @@ pub fn measured(side: Side, task: Task, bytes: &[u8], out: &mut [u8]) -> Answer 
 }
 
 pub fn once(side: Side, work: Work) {
-    measured(side, work.task, &work.input(), &mut output());
+    let answer = measured(side, work.task, &work.input(), &mut output());
+    assert_eq!(answer.code, code::ANSWERED, "{work:?}");
 }

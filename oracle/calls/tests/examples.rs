@@ -10,13 +10,13 @@ const EXAMPLES: &str = include_str!("../examples");
 fn examples_are_answered() {
     let lines: Vec<&str> = EXAMPLES.lines().collect();
     let (pairs, odd) = lines.as_chunks::<2>();
-    assert!(odd.is_empty());
+    assert!(odd.is_empty(), "without an answer: {odd:?}");
     let requests: String = pairs.iter().map(|[request, _]| format!("{request}\n")).collect();
     let answers = ask(&requests);
-    let wanted: Vec<String> = pairs.iter().map(|[request, answer]| format!("{request} => {answer}")).collect();
-    let got: Vec<String> =
-        pairs.iter().zip(answers.lines()).map(|([request, _], line)| format!("{request} => {line}")).collect();
-    assert_eq!(got, wanted);
+    for ([request, wanted], answer) in pairs.iter().zip(answers.lines()) {
+        assert_eq!(answer, *wanted, "{request}");
+    }
+    assert_eq!(answers.lines().count(), pairs.len());
 }
 
 #[test]
@@ -58,5 +58,6 @@ fn ask(requests: &str) -> String {
         .expect("calls starts");
     calls.stdin.take().expect("a pipe").write_all(requests.as_bytes()).expect("calls reads");
     let output = calls.wait_with_output().expect("calls ends");
+    assert!(output.status.success(), "calls: {}", output.status);
     String::from_utf8(output.stdout).expect("text")
 }

@@ -62,10 +62,6 @@ pub struct Seen {
 
 impl Seen {
     /// `room` words of the list are handed over.
-    pub fn of_port(case: &impl Ask, room: usize) -> Seen {
-        Seen::of(room, |answer| case.ask(answer))
-    }
-
     #[inline]
     pub fn of(room: usize, ask: impl FnOnce(&mut [u64]) -> u32) -> Seen {
         let mut words = [LENT; ROOM];
@@ -74,7 +70,7 @@ impl Seen {
     }
 
     pub fn port(case: &impl Ask) -> Seen {
-        Seen::of_port(case, ROOM)
+        Seen::of(ROOM, |answer| case.ask(answer))
     }
 
     pub fn untouched(code: u32) -> Seen {

@@ -1,6 +1,6 @@
 //! Questions for which the port is lent bytes as well: an output, or those held.
 
-use crate::case::{ROOM, Seen};
+use crate::case::{Ask, ROOM, Seen};
 use protocol::{Answer, code, hex};
 
 /// A question that the port answers in a lent list and in lent bytes.
@@ -9,6 +9,17 @@ pub trait Lend {
     fn lent(&self) -> Vec<u8>;
 
     fn ask(&self, lent: &mut [u8], answer: &mut [u64]) -> u32;
+}
+
+/// Whatever is lent a list alone is lent no bytes.
+impl<C: Ask> Lend for C {
+    fn lent(&self) -> Vec<u8> {
+        Vec::new()
+    }
+
+    fn ask(&self, _lent: &mut [u8], answer: &mut [u64]) -> u32 {
+        Ask::ask(self, answer)
+    }
 }
 
 /// An output before the call: no two neighbours alike, so that what is moved is seen too.

@@ -65,18 +65,18 @@ pub fn show(run: &mut Run) {
     for listed in Listed::ALL {
         println!("listed difference {}: {}", listed.name(), listed.why());
         match listed {
-            Listed::CursorPastInput => run.show(&Lex::new(&[1, 2], 9, Call::ReadId)),
-            Listed::TextPastInput => run.show(&Text::new(&[1, 2], 1, 2)),
-            Listed::BadTextPlace => run.show(&Write::new(&[], 7, &[0, 1, 0, 0, 0], 5)),
-            Listed::LongString => run.show(&Write::token(&Token::Quoted(vec![0; 65_536]), 65_540)),
-            Listed::WideLookup => run.show(&Write::token(&Token::Lookup(1 << 24), 5)),
-            Listed::ReservedId => run.show(&Write::token(&Token::Id(1), 2)),
-            Listed::NoRoom => run.show(&Write::token(&Token::U32(7), 5)),
+            Listed::CursorPastInput => run.show(listed, &Lex::new(&[1, 2], 9, Call::ReadId)),
+            Listed::TextPastInput => run.show(listed, &Text::new(&[1, 2], 1, 2)),
+            Listed::BadTextPlace => run.show(listed, &Write::new(&[], 7, &[0, 1, 0, 0, 0], 5)),
+            Listed::LongString => run.show(listed, &Write::token(&Token::Quoted(vec![0; 65_536]), 65_540)),
+            Listed::WideLookup => run.show(listed, &Write::token(&Token::Lookup(1 << 24), 5)),
+            Listed::ReservedId => run.show(listed, &Write::token(&Token::Id(1), 2)),
+            Listed::NoRoom => run.show(listed, &Write::token(&Token::U32(7), 5)),
             Listed::ShortWindow => {
-                run.show(&Fast::new(&[0; 8], &[]));
-                run.show(&Fast::new(&[0; 8], &[1, 0]));
+                run.show(listed, &Fast::new(&[0; 8], &[]));
+                run.show(listed, &Fast::new(&[0; 8], &[1, 0]));
             }
-            Listed::BadSourceState => bad_source_states().iter().for_each(|case| run.show(case)),
+            Listed::BadSourceState => bad_source_states().iter().for_each(|case| run.show(listed, case)),
         }
     }
 }

@@ -5,6 +5,7 @@ mod case;
 mod dump;
 mod lent;
 mod listed;
+mod normal;
 mod record;
 mod run;
 mod shrink;

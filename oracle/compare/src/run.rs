@@ -39,8 +39,9 @@ impl Run {
         }
     }
 
-    /// Checks, and prints question and answer.
-    pub fn show<C: Case>(&mut self, case: &C) {
+    /// Checks, and prints question and answer. The case must be one of this difference.
+    pub fn show<C: Case>(&mut self, listed: Listed, case: &C) {
+        assert_eq!(case.listed(), Some(listed), "{}", case.request());
         println!("  {} => {}", case.request(), case.show(&case.port()));
         if let Some(original) = case.original() {
             println!("  the original: {original}");

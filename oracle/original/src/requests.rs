@@ -26,8 +26,7 @@ fn stepped(held: [u8; 8], window: &[u8]) -> String {
         return fast_line(&Answer::none(0), &held);
     }
     let fast = next_token_fast(held, window);
-    let answer = fast.token.map_or(Answer::none(0), |(kind, length)| Answer::found(length, &[kind.into()]));
-    fast_line(&answer, &fast.held)
+    fast_line(&fast.answer(), &fast.held)
 }
 
 fn source_lines(source: &Source, ops: &[Op]) -> Option<String> {

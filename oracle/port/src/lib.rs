@@ -15,7 +15,7 @@ pub use fast::next_token_fast;
 pub use lexer::{count_tokens, is_id, kind, lex, text};
 pub use requests::answer_request;
 pub use saves::{list, normalise};
-pub use source::{Lists, Window, new_source, source};
+pub use source::{Lists, new_source, source};
 pub use split::split;
 pub use writer::write;
 

@@ -1,6 +1,7 @@
 //! The port's answers to requests.
 
-use crate::{Window, answer, is_id, kind, lex, list, next_token_fast, normalise, split, write};
+use crate::source::Window;
+use crate::{answer, is_id, kind, lex, list, next_token_fast, normalise, split, write};
 use protocol::{
     Answer, Got, Op, Request, Source, Token, code, dump_line, fast_line, kind_line, lex_line, output_line, source_line,
     split_line,

@@ -88,9 +88,12 @@ pub struct Window<'a> {
 }
 
 impl<'a> Window<'a> {
+    /// The state of a new source is what is made of words that are none.
     pub fn new(source: &'a Source) -> Window<'a> {
-        let mut state = source.words();
-        if source.given.is_none() {
+        let mut state = [u64::MAX; STATE_WORDS];
+        if source.given.is_some() {
+            state = source.words();
+        } else {
             new_source(source, &mut state);
         }
         Window { source, buffer: source.buffer.clone(), state }

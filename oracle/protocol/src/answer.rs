@@ -15,7 +15,7 @@ pub mod code {
     pub const TOO_LONG: u32 = 8;
     pub const NONE: u32 = 9;
     pub const SHORT_ANSWER: u32 = 100;
-    /// Words that are no token, or held bytes that are not eight.
+    /// Words that are no token, held bytes that are not eight, or a source's state of too few words or of no source.
     pub const BAD_ARGUMENT: u32 = 101;
 }
 

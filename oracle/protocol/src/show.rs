@@ -10,7 +10,8 @@ pub fn split_line(bytes: &[u8], answer: &Answer) -> String {
     let [count, start, length, ..] = answer.words;
     match answer.code {
         code::ANSWERED => format!("ok {} {}", hex(part(bytes, 0, count)), hex(part(bytes, start, length))),
-        _ => "none".to_string(),
+        code::NONE => "none".to_string(),
+        code => format!("err {}", refusal(code)),
     }
 }
 

@@ -11,6 +11,8 @@ pub const U32: u16 = 0x0014;
 pub const UNQUOTED: u16 = 0x0017;
 pub const RGB: u16 = 0x0243;
 pub const COMPACT: std::ops::RangeInclusive<u16> = 0x0d47..=0x0d55;
+/// All that a text follows.
+pub const TEXTS: [u16; 3] = [QUOTED, UNQUOTED, 0x0d5e];
 
 pub const RESERVED: [u16; 42] = [
     0x0001, 0x0003, 0x0004, 0x0014, 0x000c, 0x000d, 0x029c, 0x0317, 0x0167, 0x000e, 0x000f, 0x0017, 0x0d5e, 0x0d42,

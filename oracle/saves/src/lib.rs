@@ -2,7 +2,7 @@
 
 mod damage;
 mod flavour;
-mod ids;
+pub mod ids;
 mod narrow;
 mod rng;
 

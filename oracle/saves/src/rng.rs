@@ -1,6 +1,5 @@
 //! Numbers from a seed (splitmix64).
 
-#[derive(Clone)]
 pub struct Rng(u64);
 
 impl Rng {

@@ -1,17 +1,14 @@
 //! What is asked: every call, kind, refusal and id, in few bytes.
 
 use super::sample::{LONGEST, Sample};
-use crate::stages::{SPECIMENS, plain_calls};
+use crate::stages::{plain_calls, specimen_requests};
 use crate::subjects::{Count, Kind, Lex, Split, Text};
 use protocol::{Call, Request, code};
+use saves::ids::{CLOSE, OPEN, RGB, TEXTS};
 use saves::{
     Flavour, Payload, Plan, RESERVED, Rng, bad_colour, cut_and_changed_colours, flip, payload, random_bytes,
     random_ids, save, token,
 };
-
-const OPEN: u16 = 0x0003;
-const CLOSE: u16 = 0x0004;
-const RGB: u16 = 0x0243;
 
 pub fn all(sample: &mut Sample, seed: u64) {
     let mut rng = Rng::new(seed);
@@ -32,9 +29,8 @@ pub fn all(sample: &mut Sample, seed: u64) {
 }
 
 fn specimens(sample: &mut Sample) {
-    for line in SPECIMENS.lines() {
-        let (request, _) = line.split_once(" => ").expect("request => answer");
-        match Request::parse(request).expect("a request") {
+    for (_, request) in specimen_requests() {
+        match request {
             Request::Lex { bytes, at, call } => {
                 sample.add(&Lex::new(&bytes, at, call));
                 sample.add(&Count::new(&bytes));
@@ -133,7 +129,7 @@ fn one_id(sample: &mut Sample, whole: &[u8], id: u16) {
 /// Texts with as many bytes as they say, with more and with fewer; a length's second byte counts too.
 fn texts(sample: &mut Sample) {
     let sizes = [(0, 0), (1, 1), (252, 252), (252, 251), (128, 129), (0x0101, 3), (0xff02, 3)];
-    for id in [0x000fu16, 0x0017, 0x0d5e] {
+    for id in TEXTS {
         for (len, there) in sizes {
             let bytes = [&id.to_le_bytes()[..], &u16::to_le_bytes(len), &vec![0x74; there]].concat();
             sample.add(&Lex::new(&bytes, 0, Call::ReadToken));

@@ -3,11 +3,11 @@
 use super::entry::Entry;
 use super::sample::{LONGEST, LONGEST_OUTPUT, Sample};
 use crate::case::Case;
-use crate::dump::dump;
 use crate::lent::SeenLent;
-use crate::stages::SPECIMENS;
-use crate::subjects::{Dump, Fast, Normal, Write, normal_form};
+use crate::stages::{FEW_VALUES, of_number, specimen_requests};
+use crate::subjects::{Fast, Form, Whole, Write};
 use protocol::{Answer, Colour, Request, Token, WORDS, code};
+use saves::ids::TEXTS;
 use saves::{Flavour, Plan, RESERVED, Rng, bad_colour, flip, narrow, random_bytes, random_ids, save, token};
 
 /// The ends of one to eight bytes, of signed numbers, and of lookups that can be written.
@@ -29,12 +29,10 @@ pub fn all(sample: &mut Sample, seed: u64) {
 
 /// Every kind with the ends of its values, and each reserved id as a plain one.
 fn tokens(sample: &mut Sample) {
-    let mut tokens = vec![Token::Open, Token::Close, Token::Equal, Token::Bool(false), Token::Bool(true)];
+    let mut tokens = FEW_VALUES.to_vec();
     for number in ENDS {
-        let (low, bytes) = (number as u32, number.to_le_bytes());
-        tokens.extend([Token::U32(low), Token::I32(low.cast_signed()), Token::F32(low.to_le_bytes())]);
-        tokens.extend([Token::U64(number), Token::I64(number.cast_signed()), Token::F64(bytes)]);
-        tokens.extend([Token::Lookup(low), Token::Id(number as u16)]);
+        tokens.extend(of_number(number));
+        let low = number as u32;
         tokens.extend([None, Some(low)].map(|a| Token::Rgb(Colour { r: low, g: 2, b: (number >> 32) as u32, a })));
     }
     for length in [0, 1, 3, 200] {
@@ -76,11 +74,8 @@ fn places(sample: &mut Sample) {
 }
 
 fn specimens(sample: &mut Sample) {
-    for line in SPECIMENS.lines() {
-        let (request, _) = line.split_once(" => ").expect("request => answer");
-        if let Request::Normal { bytes, .. } | Request::Dump { bytes } | Request::Lex { bytes, .. } =
-            Request::parse(request).expect("a request")
-        {
+    for (_, request) in specimen_requests() {
+        if let Request::Normal { bytes, .. } | Request::Dump { bytes } | Request::Lex { bytes, .. } = request {
             whole(sample, &bytes);
         }
     }
@@ -117,7 +112,7 @@ fn steps(sample: &mut Sample, rng: &mut Rng) {
             step(sample, &rng.number().to_le_bytes(), &window[..len]);
         }
     }
-    for id in [0x000fu16, 0x0017, 0x0d5e] {
+    for id in TEXTS {
         for len in [0u16, 11, 12, 13, 0x0100, 0xffff] {
             let window = [&id.to_le_bytes()[..], &len.to_le_bytes(), &[0x74; 12]].concat();
             step(sample, &rng.number().to_le_bytes(), &window);
@@ -133,11 +128,10 @@ fn whole(sample: &mut Sample, bytes: &[u8]) {
     if bytes.len() > LONGEST {
         return;
     }
-    for room in rooms(normal_form(bytes).map_or(bytes.len(), |form| form.len())) {
-        add(sample, "normalise", [room, 0], &Normal::new(bytes, room).expected(), bytes);
-    }
-    for room in rooms(dump(bytes).len()) {
-        add(sample, "list", [room, 0], &Dump::new(bytes, room).expected(), bytes);
+    for form in Form::ALL {
+        for room in rooms(form.need(bytes)) {
+            add(sample, form.name(), [room, 0], &Whole::new(form, bytes, room).expected(), bytes);
+        }
     }
 }
 

@@ -48,7 +48,8 @@ impl Sample {
 
     pub fn print_counts(&self) {
         for (call, name) in CALLS.iter().enumerate() {
-            println!("{:>6} {name}", self.counts.get(&call).unwrap_or(&0));
+            let count = self.counts.get(&call).unwrap_or_else(|| panic!("nothing is recorded of {name}"));
+            println!("{count:>6} {name}");
         }
         println!("{:>6} answers of the original", self.counts.values().sum::<usize>());
     }

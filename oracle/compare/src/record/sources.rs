@@ -2,8 +2,8 @@
 
 use super::entry::Entry;
 use super::sample::Sample;
-use crate::stages::SPECIMENS;
 use crate::stages::source::{every_op, made, ops};
+use crate::stages::specimen_requests;
 use original::{Window, has_op};
 use protocol::{Answer, Got, Numbers, Op, Request, STATE_WORDS, Source, WORDS, code};
 use saves::{Rng, cut_and_changed_colours};
@@ -33,10 +33,9 @@ pub fn all(sample: &mut Sample, seed: u64) {
 }
 
 fn specimens(sample: &mut Sample) {
-    for line in SPECIMENS.lines() {
-        let (request, _) = line.split_once(" => ").expect("request => answer");
-        if let Request::Source { source, ops } = Request::parse(request).expect("a request") {
-            sample.note(&format!("The specimen: {request}"));
+    for (line, request) in specimen_requests() {
+        if let Request::Source { source, ops } = request {
+            sample.note(&format!("The specimen: {line}"));
             along(sample, source, ops);
         }
     }

@@ -4,6 +4,7 @@ use super::sweep::{TOKENS, along, every_call};
 use crate::run::Run;
 use crate::subjects::{Count, Lex, Text};
 use protocol::Call;
+use saves::ids::TEXTS;
 use saves::{Flavour, Plan, Rng, save};
 
 pub fn boundary(run: &mut Run, rng: &mut Rng) {
@@ -18,7 +19,7 @@ pub fn boundary(run: &mut Run, rng: &mut Rng) {
 
 /// Texts at the limits of one and two bytes of length, in inputs a little too short, just right, and too long.
 fn texts(run: &mut Run) {
-    for id in [0x000fu16, 0x0017, 0x0d5e] {
+    for id in TEXTS {
         for len in [0u16, 1, 2, 127, 128, 255, 256, 257, 299, 300, 32767, 32768, 65534, 65535] {
             let input = [&id.to_le_bytes()[..], &len.to_le_bytes(), &vec![4; usize::from(len) + 1]].concat();
             for cut in 0..=2.min(input.len() - 4) {

@@ -2,6 +2,7 @@
 
 use crate::run::Run;
 use crate::subjects::Fast;
+use saves::ids::TEXTS;
 use saves::{RESERVED, Rng};
 
 const LONGEST: usize = 40;
@@ -42,7 +43,7 @@ fn all_ids(run: &mut Run, rng: &mut Rng) {
 fn texts(run: &mut Run, rng: &mut Rng) {
     let windows = (0..=LONGEST).chain([255, 256, 259, 260, 261, 4096, 65_534, 65_535, 65_538, 65_539, 65_540, 65_600]);
     for window_len in windows {
-        for id in [0x000fu16, 0x0017, 0x0d5e] {
+        for id in TEXTS {
             let about = window_len.saturating_sub(7)..=window_len + 2;
             for text_len in about.chain([0, 1, 0x0100, 0xff00, 0xffff]).filter_map(|len| u16::try_from(len).ok()) {
                 let mut window = [id.to_le_bytes(), text_len.to_le_bytes()].concat();

@@ -8,7 +8,7 @@ use std::env;
 use std::path::{Path, PathBuf};
 
 /// The directory of the programs; a relative one starts at the project's root.
-pub fn directory() -> PathBuf {
+fn directory() -> PathBuf {
     let root = Path::new(env!("CARGO_MANIFEST_DIR")).ancestors().nth(2).expect("a directory in the project's oracle/");
     root.join(env::var("STIVLAHEIM_BIN").unwrap_or_else(|_| "target/bin".to_string()))
 }

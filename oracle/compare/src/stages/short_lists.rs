@@ -1,10 +1,10 @@
 //! Every function with an answer list that is too short.
 
 use super::sweep::plain_calls;
-use crate::case::{Ask, Case};
+use crate::case::Case;
 use crate::lent::Lend;
 use crate::run::Run;
-use crate::subjects::{Count, Dump, Fast, Lex, Normal, Short, ShortLent, Split, Text, Write};
+use crate::subjects::{Count, Fast, Form, Lex, Short, Split, Text, Whole, Write};
 use protocol::{Call, WORDS};
 
 pub fn short_lists(run: &mut Run) {
@@ -18,24 +18,19 @@ pub fn short_lists(run: &mut Run) {
     too_short(run, &Text::new(&bytes, 1, 2));
     too_short(run, &Count::new(&bytes));
     for room in [0, 5, 60] {
-        lent_too_short(run, &Write::new(&bytes, 7, &[1, 2, 0, 0, 0], room));
-        lent_too_short(run, &Write::new(&bytes, 7, &[9, 2, 0, 0, 0], room));
-        lent_too_short(run, &Write::new(&bytes, 15, &[], room));
-        lent_too_short(run, &Normal::new(&bytes, room));
-        lent_too_short(run, &Dump::new(&bytes, room));
+        too_short(run, &Write::new(&bytes, 7, &[1, 2, 0, 0, 0], room));
+        too_short(run, &Write::new(&bytes, 7, &[9, 2, 0, 0, 0], room));
+        too_short(run, &Write::new(&bytes, 15, &[], room));
+        for form in Form::ALL {
+            too_short(run, &Whole::new(form, &bytes, room));
+        }
     }
-    lent_too_short(run, &Fast::new(&[9; 8], &[0x14; 16]));
-    lent_too_short(run, &Fast::new(&[9; 7], &[0x14; 2]));
+    too_short(run, &Fast::new(&[9; 8], &[0x14; 16]));
+    too_short(run, &Fast::new(&[9; 7], &[0x14; 2]));
 }
 
-fn too_short<C: Case + Ask>(run: &mut Run, case: &C) {
+fn too_short<C: Case + Lend>(run: &mut Run, case: &C) {
     for room in 0..WORDS {
         run.check(&Short { case, room });
-    }
-}
-
-fn lent_too_short<C: Case + Lend>(run: &mut Run, case: &C) {
-    for room in 0..WORDS {
-        run.check(&ShortLent { case, room });
     }
 }

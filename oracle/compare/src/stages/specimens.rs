@@ -4,22 +4,31 @@ use super::sweep::every_place;
 use crate::case::Case;
 use crate::dump::dump;
 use crate::run::Run;
-use crate::subjects::Normal;
+use crate::subjects::{Form, Whole};
 use protocol::{Request, output_line};
 
 /// Request and answer, one specimen a line.
-pub const SPECIMENS: &str = include_str!("specimens.txt");
+const SPECIMENS: &str = include_str!("specimens.txt");
 
 /// The original must answer as the paper says, and so must the port.
 struct Specimen {
+    /// The request's.
     line: &'static str,
+    request: Request,
+    answer: &'static str,
 }
 
-impl Specimen {
-    fn parts(&self) -> (Request, &'static str) {
-        let (request, answer) = self.line.split_once(" => ").expect("request => answer");
-        (Request::parse(request).expect("a request"), answer)
-    }
+fn all() -> impl Iterator<Item = Specimen> {
+    SPECIMENS.lines().map(|text| {
+        let (line, answer) = text.split_once(" => ").unwrap_or_else(|| panic!("not request => answer: {text}"));
+        let request = Request::parse(line).unwrap_or_else(|| panic!("no request: {line}"));
+        Specimen { line, request, answer }
+    })
+}
+
+/// The requests alone: as they stand in their lines, and parsed.
+pub fn specimen_requests() -> impl Iterator<Item = (&'static str, Request)> {
+    all().map(|specimen| (specimen.line, specimen.request))
 }
 
 impl Case for Specimen {
@@ -31,13 +40,11 @@ impl Case for Specimen {
     }
 
     fn expected(&self) -> [String; 2] {
-        let (_, answer) = self.parts();
-        [answer.to_string(), answer.to_string()]
+        [self.answer.to_string(), self.answer.to_string()]
     }
 
     fn port(&self) -> [String; 2] {
-        let (request, _) = self.parts();
-        [original_line(&request), port::answer_request(&request)]
+        [original_line(&self.request), port::answer_request(&self.request)]
     }
 
     fn smaller(&self) -> impl Iterator<Item = Self> {
@@ -57,7 +64,7 @@ impl Case for Specimen {
 fn original_line(request: &Request) -> String {
     match request {
         Request::Normal { room, bytes } => {
-            let seen = Normal::new(bytes, *room).expected();
+            let seen = Whole::new(Form::Normal, bytes, *room).expected();
             output_line(&seen.seen.answer(), seen.lent())
         }
         Request::Dump { bytes } => dump(bytes).trim_end().replace('\n', " | "),
@@ -66,11 +73,10 @@ fn original_line(request: &Request) -> String {
 }
 
 pub fn specimens(run: &mut Run) {
-    for line in SPECIMENS.lines() {
-        let specimen = Specimen { line };
+    for specimen in all() {
         run.check(&specimen);
-        if let (Request::Lex { bytes, .. }, _) = specimen.parts() {
-            every_place(run, &bytes);
+        if let Request::Lex { bytes, .. } = &specimen.request {
+            every_place(run, bytes);
         }
     }
 }

@@ -1,8 +1,7 @@
 //! The normal form and the dump of whole saves, and the fast step along them.
 
-use crate::dump::dump;
 use crate::run::Run;
-use crate::subjects::{Dump, Fast, Limit, Normal, normal_form};
+use crate::subjects::{Fast, Form, Limit, Whole};
 use saves::{Flavour, Plan, Rng, bad_colour, flip, narrow, random_bytes, random_ids, save};
 
 pub fn whole(run: &mut Run, rng: &mut Rng, cases: usize) {
@@ -96,12 +95,10 @@ fn middling(run: &mut Run, rng: &mut Rng, flavour: Flavour) {
 
 /// Without room, with a byte too few, with just enough, and with one more.
 pub fn one_save(run: &mut Run, bytes: &[u8]) {
-    let form = normal_form(bytes).map_or(bytes.len(), |form| form.len());
-    for room in rooms(form) {
-        run.check(&Normal::new(bytes, room));
-    }
-    for room in rooms(dump(bytes).len()) {
-        run.check(&Dump::new(bytes, room));
+    for form in Form::ALL {
+        for room in rooms(form.need(bytes)) {
+            run.check(&Whole::new(form, bytes, room));
+        }
     }
 }
 
@@ -128,7 +125,8 @@ fn limits(run: &mut Run) {
     for at in (0..Limit::LONGEST).step_by(4 + TEXT) {
         bytes[at..at + 4].copy_from_slice(&[0x0f, 0, 0xfc, 0xff]);
     }
-    run.check(&Limit::normalise(&bytes[..Limit::LONGEST]));
-    run.check(&Limit::normalise(&bytes));
-    run.check(&Limit::list(&bytes));
+    run.check(&Limit { form: Form::Normal, bytes: &bytes[..Limit::LONGEST] });
+    for form in Form::ALL {
+        run.check(&Limit { form, bytes: &bytes });
+    }
 }

@@ -24,6 +24,24 @@ pub fn writing(run: &mut Run, rng: &mut Rng) {
     }
 }
 
+/// Tokens without a value, and both bools.
+pub const FEW_VALUES: [Token; 5] = [Token::Open, Token::Close, Token::Equal, Token::Bool(false), Token::Bool(true)];
+
+/// Each kind of one number, with as many of its low bytes as the kind takes.
+pub fn of_number(number: u64) -> [Token; 8] {
+    let low = number as u32;
+    [
+        Token::U32(low),
+        Token::I32(low.cast_signed()),
+        Token::F32(low.to_le_bytes()),
+        Token::U64(number),
+        Token::I64(number.cast_signed()),
+        Token::F64(number.to_le_bytes()),
+        Token::Lookup(low),
+        Token::Id(number as u16),
+    ]
+}
+
 /// Each kind with the ends of its values, the ends of each byte of them, and some from the seed.
 fn values(rng: &mut Rng) -> Vec<Token> {
     let mut numbers: Vec<u64> =
@@ -31,13 +49,10 @@ fn values(rng: &mut Rng) -> Vec<Token> {
     numbers.extend([(1 << 24) - 2, (1 << 24) + 1, i32::MIN as u64, i32::MAX as u64, u32::MAX.into()]);
     numbers.extend([u64::MAX, i64::MIN as u64, i64::MAX as u64, 0x0102_0304_0506_0708]);
     numbers.extend((0..64).map(|_| rng.any_size()));
-    let mut tokens = vec![Token::Open, Token::Close, Token::Equal, Token::Bool(false), Token::Bool(true)];
+    let mut tokens = FEW_VALUES.to_vec();
     for number in numbers {
-        let (low, bytes) = (number as u32, number.to_le_bytes());
-        tokens.extend([Token::U32(low), Token::I32(low.cast_signed()), Token::F32(low.to_le_bytes())]);
-        tokens.extend([Token::U64(number), Token::I64(number.cast_signed()), Token::F64(bytes)]);
-        tokens.extend([Token::Lookup(low), Token::Id(number as u16)]);
-        let (g, b) = (rng.number() as u32, (number >> 32) as u32);
+        tokens.extend(of_number(number));
+        let (low, g, b) = (number as u32, rng.number() as u32, (number >> 32) as u32);
         tokens.extend([None, Some(0), Some(low)].map(|a| Token::Rgb(Colour { r: low, g, b, a })));
     }
     for length in [0, 1, 2, 3, 64, 127, 128, 254, 255, 256, 257, 300] {

@@ -26,10 +26,6 @@ impl<'a> Fast<'a> {
     }
 }
 
-fn answer(fast: &original::Fast) -> Answer {
-    fast.token.map_or(Answer::none(0), |(kind, length)| Answer::found(length, &[kind.into()]))
-}
-
 impl Lend for Fast<'_> {
     fn lent(&self) -> Vec<u8> {
         self.held.clone()
@@ -55,7 +51,7 @@ impl Case for Fast<'_> {
             return SeenLent::answered(self, Answer::none(0));
         }
         let fast = original::next_token_fast(held, &self.window);
-        SeenLent::changed(self, answer(&fast), &fast.held)
+        SeenLent::changed(self, fast.answer(), &fast.held)
     }
 
     fn port(&self) -> SeenLent {
@@ -74,7 +70,7 @@ impl Case for Fast<'_> {
         let stepped = catch_unwind(|| original::next_token_fast(held, &window));
         set_hook(hook);
         Some(match stepped {
-            Ok(fast) => fast_line(&answer(&fast), &fast.held),
+            Ok(fast) => fast_line(&fast.answer(), &fast.held),
             Err(_) => "a panic".to_string(),
         })
     }

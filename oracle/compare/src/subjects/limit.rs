@@ -1,28 +1,18 @@
 //! Saves about the longest that the normaliser and the listing take, which the original does not limit.
 
+use super::Form;
 use crate::case::Case;
 use crate::lent::{Lend, SeenLent};
 use protocol::{Answer, code};
 
-type Function = fn(&[u8], &mut [u8], &mut [u64]) -> u32;
-
 pub struct Limit<'a> {
-    bytes: &'a [u8],
-    name: &'static str,
-    function: Function,
+    pub form: Form,
+    /// Unless they are too long, their form is as long as they are.
+    pub bytes: &'a [u8],
 }
 
-impl<'a> Limit<'a> {
+impl Limit<'_> {
     pub const LONGEST: usize = 1 << 31;
-
-    /// Every token's normal spelling is as long as its own.
-    pub fn normalise(bytes: &'a [u8]) -> Limit<'a> {
-        Limit { bytes, name: "normalise", function: port::normalise }
-    }
-
-    pub fn list(bytes: &'a [u8]) -> Limit<'a> {
-        Limit { bytes, name: "list", function: port::list }
-    }
 }
 
 impl Lend for Limit<'_> {
@@ -31,7 +21,7 @@ impl Lend for Limit<'_> {
     }
 
     fn ask(&self, lent: &mut [u8], answer: &mut [u64]) -> u32 {
-        (self.function)(self.bytes, lent, answer)
+        self.form.by_port(self.bytes, lent, answer)
     }
 }
 
@@ -39,7 +29,7 @@ impl Case for Limit<'_> {
     type Seen = SeenLent;
 
     fn name(&self) -> &'static str {
-        self.name
+        self.form.name()
     }
 
     fn expected(&self) -> SeenLent {
@@ -56,7 +46,7 @@ impl Case for Limit<'_> {
     }
 
     fn request(&self) -> String {
-        format!("{} on {} bytes without room", self.name, self.bytes.len())
+        format!("{} on {} bytes without room", self.name(), self.bytes.len())
     }
 
     fn show(&self, seen: &SeenLent) -> String {

@@ -1,29 +1,27 @@
 //! The questions, one module for each family of calls.
 
 mod count;
-mod dump;
 mod fast;
 mod kind;
 mod lexer;
 mod limit;
-mod normal;
 mod program;
 mod short;
 mod source;
 mod split;
 mod text;
+mod whole;
 mod write;
 
 pub use count::Count;
-pub use dump::Dump;
 pub use fast::Fast;
 pub use kind::Kind;
 pub use lexer::Lex;
 pub use limit::Limit;
-pub use normal::{Normal, normal_form};
 pub use program::{Printed, Program};
-pub use short::{Short, ShortLent};
+pub use short::Short;
 pub use source::{BadLists, NewSource, STATE_ROOM, Sequence, SourceLine, lent_words};
 pub use split::Split;
 pub use text::Text;
+pub use whole::{Form, Whole};
 pub use write::Write;

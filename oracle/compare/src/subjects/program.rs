@@ -1,9 +1,9 @@
 //! A program's output for a save on its standard input.
 
-use super::normal_form;
 use crate::case::Case;
 use crate::dump::dump;
 use crate::lent::shortened;
+use crate::normal::normal_form;
 use crate::shrink::{cuts, without, zeroed};
 use protocol::{code, hex};
 use std::borrow::Cow;

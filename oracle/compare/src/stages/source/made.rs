@@ -1,10 +1,9 @@
 //! Sources from the seed, new and under way.
 
 use protocol::{Numbers, Op, Source};
+use saves::ids::{QUOTED, RGB};
 use saves::{Flavour, Plan, Rng, bad_colour, flip, random_bytes, random_ids, save, token};
 
-const QUOTED: u16 = 0x000f;
-const RGB: u16 = 0x0243;
 const LONGEST_BUFFER: usize = 40;
 const LONGER_BUFFERS: [usize; 5] = [63, 64, 65, 256, 300];
 

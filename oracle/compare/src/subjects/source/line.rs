@@ -1,4 +1,4 @@
-//! A request on a source, as `calls` has it.
+//! A request on a source whose state fits, as `calls` has it.
 
 use crate::case::Case;
 use protocol::Request;
@@ -19,13 +19,7 @@ impl Case for SourceLine {
     }
 
     fn expected(&self) -> String {
-        let request = self.parsed();
-        let refused = match &request {
-            Request::Source { source, .. } => source.bad_place(),
-            _ => None,
-        };
-        let original = || original::answer_request(&request).expect("the original has the operations");
-        refused.map_or_else(original, |place| format!("badplace {place}"))
+        original::answer_request(&self.parsed()).unwrap_or_else(|| panic!("not for the original: {}", self.0))
     }
 
     fn port(&self) -> String {

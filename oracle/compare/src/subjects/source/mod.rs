@@ -12,7 +12,7 @@ pub use seen::{STATE_ROOM, lent_words};
 use crate::case::Case;
 use crate::listed::Listed;
 use crate::shrink::{cuts, less, without};
-use protocol::{Got, Op, Request, Source, code, hex, source_line};
+use protocol::{Got, Op, Source, code, hex, source_line};
 use seen::{Lent, SeenCall};
 use simpler::simpler;
 
@@ -29,10 +29,9 @@ impl Sequence {
         Sequence { source, ops }
     }
 
-    /// The question as a request, where there is one.
+    /// The question as a request; of slices, only new ones have one.
     pub fn line(&self) -> Option<String> {
-        let line = self.request();
-        Request::parse(&line).map(|_| line)
+        (self.source.streaming || self.source.given.is_none()).then(|| self.request())
     }
 
     fn asked(&self) -> impl Iterator<Item = Op> {

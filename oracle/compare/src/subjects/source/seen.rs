@@ -69,9 +69,12 @@ pub struct Lent<'a> {
 }
 
 impl<'a> Lent<'a> {
+    /// The state of a new source is what is made of words that are none.
     pub fn new(source: &'a Source) -> Lent<'a> {
-        let mut state = lent_words(source.words());
-        if source.given.is_none() {
+        let mut state = [LENT; STATE_ROOM];
+        if source.given.is_some() {
+            state = lent_words(source.words());
+        } else {
             port::new_source(source, &mut state);
         }
         Lent::with_state(source, state)

@@ -11,6 +11,12 @@ pub struct Fast {
     pub held: [u8; 8],
 }
 
+impl Fast {
+    pub fn answer(&self) -> Answer {
+        self.token.map_or(Answer::none(0), |(kind, length)| Answer::found(length, &[kind.into()]))
+    }
+}
+
 /// The shortest window for which the original's own caller takes the step.
 pub const FAST_WINDOW: usize = 16;
 
