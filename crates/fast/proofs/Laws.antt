@@ -13,7 +13,7 @@ use mir.Syntax.{w8, w64}
 use mir.Val.{Fits}
 use Rattle.form.specs.Numbers.{pick, le, leBytes, Bytes, negated}
 use Rattle.form.specs.Values as F
-use Rattle.form.specs.Table.{Payload, number, text, nothing, after}
+use Rattle.form.specs.Table.{Payload, number, text, nothing}
 use Rattle.form.specs.Fast.{fast, slow, front, over, stepNumber, stepText, stepBy}
 use Rattle.form.proofs.LittleEndian.{length-bytes, bytes-le, take-bytes, drop-bytes, bytes-all}
 use Rattle.form.specs.Refusals.{Fault}
@@ -145,8 +145,8 @@ module _ {s held : List ℕ} (r : Ready s held) where
   id-arm i q = alone-arm (F.Id i) Id (take 2 s ++ drop 2 held) refl (rw q (as-read 2 s held bytes (omega (arith, r .long))))
 
 -- an arm: what was answered, by the payload that the id has
-pub arm-by : (s held : List ℕ) (i : ℕ) {x y : FastToken} {p : Payload} → x ≡ y → after i ≡ p → stepped y ≡ stepBy p s held → stepped x ≡ stepBy (after i) s held
-arm-by s held i e q h = ap stepped e ∙ h ∙ ap (λ (p : Payload). stepBy p s held) (sym q)
+pub arm-by : (s held : List ℕ) {x y : FastToken} {q p : Payload} → x ≡ y → q ≡ p → stepped y ≡ stepBy p s held → stepped x ≡ stepBy q s held
+arm-by s held e k h = ap stepped e ∙ h ∙ ap (λ (p : Payload). stepBy p s held) (sym k)
 
 -- ---- what the payload reads give in a window of 16 bytes or more
 
@@ -201,9 +201,9 @@ module _ (s : List ℕ) (long : 16 ≤ length s) where
     pub text-got : {x : Text} {n : ℕ} → placed textOf (at string s 2) ≡ found x n → record { step = Fast k (4 + x .len); held = take 2 (drop 2 s) ++ drop 2 held } ≡ texted k s held
     text-got e = let d = text-there e in rw (le-leb (4 + size) (length s) (d .1), d .0)
 
-    pub text-never : {why : Fault} → placed textOf (at string s 2) ≡ refused why → slowly held ≡ texted k s held
+    pub text-slow : {why : Fault} → placed textOf (at string s 2) ≡ refused why → slowly held ≡ texted k s held
     unfolding placed
-    text-never {why} e = go (leb (4 + size) (length s)) refl
+    text-slow {why} e = go (leb (4 + size) (length s)) refl
       where
         go : (b : Bool) → leb (4 + size) (length s) ≡ b → slowly held ≡ textedBy k size s held
         go true t =

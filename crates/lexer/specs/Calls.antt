@@ -15,7 +15,7 @@ use Rattle.form.specs.Reading.{next, num, string}
 use Rattle.form.specs.Calls.{Cursor, Call, gives, refuses, within}
 use Rattle.payload.specs.Answers.{faultOf, textOf, colourOf}
 use Rattle.payload.specs.declared.answers.Text.{Text}
-use Rattle.token.specs.Texts as Texts
+use Rattle.payload.specs.Texts as Texts
 use Rattle.token.specs.declared.Token.{Token}
 use Rattle.lexer.specs.declared.Lexer.{Lexer}
 use Rattle.lexer.specs.declared.answers.Refusal.{Refusal}

@@ -5,12 +5,12 @@ use mathlib.Core.Path.{_≡_, refl}
 use mathlib.Core.Option.{none, some}
 use mathlib.Core.List.{List}
 use lib.ListN.{length}
-use borrow.Author.Tests.{le-leb}
 use Rattle.form.specs.Values as F
 use Rattle.form.specs.Listing.{name, shown, tokenLine}
 use Rattle.form.proofs.TextsLast.{texts, Last, Ends}
 use Rattle.payload.specs.Answers.{textOf}
-use Rattle.token.specs.Texts.{partOf}
+use Rattle.payload.specs.Texts.{partOf}
+use Rattle.payload.proofs.Texts.{within}
 use Rattle.token.specs.Tokens.{tokenOf}
 use Rattle.token.specs.declared.Token.{Token}
 use Rattle.token.specs.declared.Token.the-variants as T
@@ -39,7 +39,7 @@ text-is : (s t : List ℕ) (e : ℕ) → Last s t e → e ≤ length s → partO
 text-is s t e k h =
     let l : length t ≤ e = k .fits in
     let q : e - length t + length t ≤ length s = omega arith in
-    rw (le-leb (e - length t + length t) (length s) q) (k .last)
+    rw (within s (textOf e t) q) (k .last)
 
 pub line-is : (s : List ℕ) (p e : ℕ) (v : F.Value) → Ends s v e → e ≤ length s → lineOf s p (partsOf (tokenOf e v)) ≡ tokenLine p v
 unfolding lineOf tokenLine tokenOf name shown shapeWords texts

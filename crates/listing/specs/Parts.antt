@@ -8,7 +8,7 @@ use Rattle.form.specs.Ascii.{ascii, decimal, signed, hex, hexOrDash, truth, lin
 use Rattle.form.specs.Listing.{alphaWords}
 use Rattle.payload.specs.Answers.{alphaOf}
 use Rattle.payload.specs.declared.answers.Rgb.{Rgb}
-use Rattle.token.specs.Texts.{partOf}
+use Rattle.payload.specs.Texts.{partOf}
 use Rattle.token.specs.declared.Token.{Token}
 use Rattle.token.specs.declared.Token.the-variants as T
 use Rattle.listing.specs.declared.line.Shape.{Shape}

@@ -3,4 +3,5 @@ pub mod Signed
 pub mod Rests
 pub mod Parts
 pub mod Cutting
+pub mod Texts
 pub mod Unique

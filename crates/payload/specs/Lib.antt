@@ -1,3 +1,4 @@
 pub mod Answers
 pub mod Compact
 pub mod Colour
+pub mod Texts

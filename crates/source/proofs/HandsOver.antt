@@ -7,13 +7,13 @@ use lib.ListN.{take, drop}
 use lib.Seq.{take-append-le, take-take}
 use Rattle.form.specs.Numbers.{le}
 use Rattle.payload.specs.declared.answers.Text.{Text}
+use Rattle.payload.proofs.Texts.{within}
 use Rattle.source.specs.declared.ParserSource.{ParserSource}
 use Rattle.source.specs.Window.{unread, past, Step, gives, refuses, andThen, _then_, textAt, heldIn, textIn, window, ensured, taken}
 use Rattle.source.specs.Binary.{spelledAt, number}
 use Rattle.source.specs.Runs.{ahead}
 use Rattle.source.proofs.Stores.{part-length}
 use Rattle.source.proofs.Cases.{ensured-by, ready}
-use Rattle.source.proofs.Laws.{text-within}
 use Rattle.source.proofs.Kept.{Sound, Keeps, ensured-keeps, drop-none}
 
 never : {A : Type 0} → _≡_ {A = ℕ} 0 1 → A
@@ -55,7 +55,7 @@ module _ (supply schedule : List ℕ) (s : ParserSource) (buffer : List ℕ) (g 
           let y : past n v ≡ u = cc in
           let x : m ≡ b = cc in
           let w = ready supply schedule s buffer n q in
-          rw (← z, ← y, ← x) (text-within supply (textAt (v .start) n) (past n v) m (omega (arith, w .good, w .there)) ∙ front q)
+          rw (← z, ← y, ← x, within (heldIn supply v m) (textAt (v .start) n) (omega (arith, w .good, w .there))) (front q)
       by (refuses r v m) q h = never (cc)
 
   -- and the number that is read

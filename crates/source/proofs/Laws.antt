@@ -2,12 +2,10 @@
 use mathlib.Core.Path.{_≡_, refl, sym, ap, _∙_}
 use mathlib.Core.Bool.{Bool, true, false, _&&_}
 use mathlib.Core.Option.{none, some}
-use mathlib.Core.List.{List, []}
-use Prim.Native.Nat.{ℕ, _+_, _≤_, _<_}
+use mathlib.Core.List.{List}
+use Prim.Native.Nat.{ℕ}
 use native.Mathlib.Omega.{arith}
 use lib.Dec.{leb}
-use lib.ListN.{length, take, drop}
-use borrow.Author.Tests.{le-leb, lt-leb}
 use Rattle.form.specs.Numbers.{pick}
 use Rattle.form.specs.Refusals.{Fault}
 use Rattle.form.specs.Readers.{found, refused}
@@ -15,7 +13,7 @@ use Rattle.payload.specs.declared.answers.Text.{Text}
 use Rattle.source.specs.declared.ParserSource.{ParserSource}
 use Rattle.source.specs.declared.answers.Stop.{Stop}
 use Rattle.source.specs.declared.answers.Tried.the-variants as Y
-use Rattle.source.specs.Window.{past, Step, gives, andThen, _then_, optional, textAt, heldIn, textIn, ensured, taken, tried, peeked}
+use Rattle.source.specs.Window.{Step, gives, andThen, _then_, optional, textAt, ensured, taken, tried, peeked}
 use Rattle.source.specs.Answers.{stopAnswer, triedAnswer, isEof, orNothing}
 
 -- what was asked for, by the answer that was found
@@ -28,14 +26,6 @@ pub elseOf : {E A : Type 0} (answer : E → List ℕ → Step A) (stopOf : E →
 elseOf answer stopOf {buffer = buffer} p q h d =
     gotOf answer p q ∙ d ∙ ap (λ (y : Stop). stopAnswer y buffer) (sym (h ∙ ap stopOf q))
 
--- the part of a text, within the bytes that hold the window and beyond them
-module _ (supply : List ℕ) (t : Text) (s : ParserSource) (buffer : List ℕ) where
-  pub text-within : t .start + t .len ≤ length (heldIn supply s buffer) → textIn supply t s buffer ≡ take (t .len) (drop (t .start) (heldIn supply s buffer))
-  text-within h = rw (le-leb _ _ h)
-
-  pub text-beyond : length (heldIn supply s buffer) < t .start + t .len → textIn supply t s buffer ≡ []
-  text-beyond h = rw (lt-leb _ _ h)
-
 -- a refusal, for the optional forms
 pub or-nothing : (x : Stop) (buffer : List ℕ) → optional (stopAnswer x buffer) ≡ triedAnswer (orNothing x) buffer
 unfolding optional
@@ -46,14 +36,6 @@ or-nothing x buffer = by (isEof (x .error) && leb (x .next .end) (x .next .start
     by false = refl
 
 module _ (supply schedule : List ℕ) (n : ℕ) (s : ParserSource) (buffer : List ℕ) where
-  pub taken-ready : {t : ParserSource} {b : List ℕ} → ensured supply schedule n s buffer ≡ gives tt t b → taken supply schedule n s buffer ≡ gives (textAt (t .start) n) (past n t) b
-  unfolding taken _then_ andThen
-  taken-ready e = rw e
-
-  pub taken-stop : (x : Stop) {b : List ℕ} → ensured supply schedule n s buffer ≡ stopAnswer x b → taken supply schedule n s buffer ≡ stopAnswer x b
-  unfolding taken _then_ andThen
-  taken-stop x e = rw e
-
   pub tried-got : {t : Text} {u : ParserSource} {b : List ℕ} → taken supply schedule n s buffer ≡ gives t u b → tried supply schedule n s buffer ≡ gives (some t) u b
   unfolding tried optional
   tried-got e = rw e

@@ -3,7 +3,7 @@ use mathlib.Core.Path.{_≡_, refl, ap, _∙_}
 use mathlib.Core.Bool.{Bool, true, false, _&&_}
 use mathlib.Core.Option.{none, some}
 use mathlib.Core.List.{List}
-use Prim.Native.Nat.{ℕ, _+_, _≤_}
+use Prim.Native.Nat.{ℕ, _≤_}
 use native.Mathlib.Omega.{arith}
 use lib.Dec.{leb, eqb}
 use lib.ListN.{length, drop, length-drop}
@@ -17,7 +17,7 @@ use Rattle.source.specs.declared.ParserSource.{ParserSource}
 use Rattle.source.specs.declared.answers.Stop.{Stop}
 use Rattle.source.specs.Window.{past, Step, gives, refuses, Call, andThen, _then_, optional, textAt, heldIn, ensured, taken, peeked}
 use Rattle.source.specs.Answers.{stopAnswer}
-use Rattle.source.specs.Binary.{spelledAt, mappedOption, number, peekedId, stringOf, string, expected, channel, withAlpha, endedBy, ending, channels, colour}
+use Rattle.source.specs.Binary.{number, expected, channel, withAlpha, endedBy, ending, channels, colour}
 use Rattle.source.proofs.Cases.{ready}
 
 -- ---- a call and then another
@@ -73,47 +73,6 @@ module _ (supply schedule : List ℕ) (s : ParserSource) (buffer : List ℕ) whe
             rw (← z, ← y, ← x) (ready-there n q)
         by (refuses r v m) q h = stopped (eqb (refusalNumber r) 1 && leb (v .end) (v .start)) r v m h
 
-  -- ---- numbers and ids
-
-  module _ (n : ℕ) where
-    pub number-got : {t : Text} {u : ParserSource} {b : List ℕ} → taken supply schedule n s buffer ≡ gives t u b → number supply schedule n s buffer ≡ gives (spelledAt supply n u (t .start) b) u b
-    unfolding number
-    number-got e = then-got _ _ s buffer e
-
-    pub number-stop : (x : Stop) {b : List ℕ} → taken supply schedule n s buffer ≡ stopAnswer x b → number supply schedule n s buffer ≡ stopAnswer x b
-    unfolding number
-    number-stop x e = then-stop _ _ s buffer e
-
-  pub peeked-id-got : {t : Text} {u : ParserSource} {b : List ℕ} → peeked supply schedule 2 s buffer ≡ gives (some t) u b → peekedId supply schedule s buffer ≡ gives (some (spelledAt supply 2 u (t .start) b)) u b
-  unfolding peekedId mappedOption
-  peeked-id-got e = then-got _ _ s buffer e
-
-  pub peeked-id-none : {u : ParserSource} {b : List ℕ} → peeked supply schedule 2 s buffer ≡ gives none u b → peekedId supply schedule s buffer ≡ gives none u b
-  unfolding peekedId mappedOption
-  peeked-id-none e = then-got _ _ s buffer e
-
-  pub peeked-id-stop : (x : Stop) {b : List ℕ} → peeked supply schedule 2 s buffer ≡ stopAnswer x b → peekedId supply schedule s buffer ≡ stopAnswer x b
-  unfolding peekedId
-  peeked-id-stop x e = then-stop _ _ s buffer e
-
-  -- ---- strings
-
-  pub string-of-got : (n : ℕ) {u : ParserSource} {b : List ℕ} → ensured supply schedule (2 + n) s buffer ≡ gives tt u b → stringOf supply schedule n s buffer ≡ gives (textAt (u .start + 2) n) (past (2 + n) u) b
-  unfolding stringOf
-  string-of-got n e = then-got _ _ s buffer e
-
-  pub string-of-stop : (n : ℕ) (x : Stop) {b : List ℕ} → ensured supply schedule (2 + n) s buffer ≡ stopAnswer x b → stringOf supply schedule n s buffer ≡ stopAnswer x b
-  unfolding stringOf
-  string-of-stop n x e = then-stop _ _ s buffer e
-
-  pub string-got : {u : ParserSource} {b : List ℕ} → ensured supply schedule 2 s buffer ≡ gives tt u b → string supply schedule s buffer ≡ stringOf supply schedule (spelledAt supply 2 u (u .start) b) u b
-  unfolding string
-  string-got e = then-got _ _ s buffer e
-
-  pub string-stop : (x : Stop) {b : List ℕ} → ensured supply schedule 2 s buffer ≡ stopAnswer x b → string supply schedule s buffer ≡ stopAnswer x b
-  unfolding string
-  string-stop x e = then-stop _ _ s buffer e
-
   -- ---- colours
 
   module _ (i : ℕ) where
@@ -124,10 +83,6 @@ module _ (supply schedule : List ℕ) (s : ParserSource) (buffer : List ℕ) whe
     pub expected-not : {j : ℕ} {u : ParserSource} {b : List ℕ} → number supply schedule 2 s buffer ≡ gives j u b → eqb j i ≡ false → expected supply schedule i s buffer ≡ refuses (InvalidRgb (u .position)) u b
     unfolding expected
     expected-not e h = then-got _ _ s buffer e ∙ rw h
-
-    pub expected-stop : (x : Stop) {b : List ℕ} → number supply schedule 2 s buffer ≡ stopAnswer x b → expected supply schedule i s buffer ≡ stopAnswer x b
-    unfolding expected
-    expected-stop x e = then-stop _ _ s buffer e
 
   -- an id by its number
   by-number : {i k : ℕ} {x : Step (Unit {0})} → i ≡ k → expected supply schedule k s buffer ≡ x → expected supply schedule i s buffer ≡ x
@@ -151,10 +106,6 @@ module _ (supply schedule : List ℕ) (s : ParserSource) (buffer : List ℕ) whe
 
 -- a colour's alpha and its end
 module _ (supply schedule : List ℕ) (s : ParserSource) (buffer : List ℕ) (r g b : ℕ) where
-  pub alpha-stop : (x : Stop) {l : List ℕ} → number supply schedule 4 s buffer ≡ stopAnswer x l → withAlpha supply schedule r g b s buffer ≡ stopAnswer x l
-  unfolding withAlpha
-  alpha-stop x e = then-stop _ _ s buffer e
-
   module _ {a : ℕ} {u : ParserSource} {l : List ℕ} (e : number supply schedule 4 s buffer ≡ gives a u l) where
     pub alpha-got : {v : ParserSource} {m : List ℕ} → expected supply schedule 0x0004 u l ≡ gives tt v m → withAlpha supply schedule r g b s buffer ≡ gives (Rgb r g b (some a)) v m
     unfolding withAlpha
@@ -163,10 +114,6 @@ module _ (supply schedule : List ℕ) (s : ParserSource) (buffer : List ℕ) (r 
     pub alpha-end-stop : (x : Stop) {m : List ℕ} → expected supply schedule 0x0004 u l ≡ stopAnswer x m → withAlpha supply schedule r g b s buffer ≡ stopAnswer x m
     unfolding withAlpha
     alpha-end-stop x h = then-got _ _ s buffer e ∙ then-stop _ _ u l (by-number supply schedule u l close-is h)
-
-  pub ending-stop : (x : Stop) {l : List ℕ} → number supply schedule 2 s buffer ≡ stopAnswer x l → ending supply schedule r g b s buffer ≡ stopAnswer x l
-  unfolding ending
-  ending-stop x e = then-stop _ _ s buffer e
 
   module _ {i : ℕ} {u : ParserSource} {l : List ℕ} (e : number supply schedule 2 s buffer ≡ gives i u l) where
     pub ending-close : i ≡ 0x0004 → ending supply schedule r g b s buffer ≡ gives (Rgb r g b none) u l
@@ -182,21 +129,16 @@ module _ (supply schedule : List ℕ) (s : ParserSource) (buffer : List ℕ) (r 
     ending-other h k = then-got _ _ s buffer e ∙ rw (close-is, channel-is, ne-eqb i 0x0004 h, ne-eqb i 0x0014 k)
 
 -- three channels
-module _ (supply schedule : List ℕ) (s : ParserSource) (buffer : List ℕ) where
-  pub red-stop : (x : Stop) {l : List ℕ} → channel supply schedule s buffer ≡ stopAnswer x l → channels supply schedule s buffer ≡ stopAnswer x l
+module _ (supply schedule : List ℕ) (s : ParserSource) (buffer : List ℕ) {r : ℕ} {u : ParserSource} {l : List ℕ} (e : channel supply schedule s buffer ≡ gives r u l) where
+  pub green-stop : (x : Stop) {m : List ℕ} → channel supply schedule u l ≡ stopAnswer x m → channels supply schedule s buffer ≡ stopAnswer x m
   unfolding channels
-  red-stop x e = then-stop _ _ s buffer e
+  green-stop x h = then-got _ _ s buffer e ∙ then-stop _ _ u l h
 
-  module _ {r : ℕ} {u : ParserSource} {l : List ℕ} (e : channel supply schedule s buffer ≡ gives r u l) where
-    pub green-stop : (x : Stop) {m : List ℕ} → channel supply schedule u l ≡ stopAnswer x m → channels supply schedule s buffer ≡ stopAnswer x m
+  module _ {g : ℕ} {v : ParserSource} {m : List ℕ} (h : channel supply schedule u l ≡ gives g v m) where
+    pub blue-stop : (x : Stop) {k : List ℕ} → channel supply schedule v m ≡ stopAnswer x k → channels supply schedule s buffer ≡ stopAnswer x k
     unfolding channels
-    green-stop x h = then-got _ _ s buffer e ∙ then-stop _ _ u l h
+    blue-stop x q = then-got _ _ s buffer e ∙ then-got _ _ u l h ∙ then-stop _ _ v m q
 
-    module _ {g : ℕ} {v : ParserSource} {m : List ℕ} (h : channel supply schedule u l ≡ gives g v m) where
-      pub blue-stop : (x : Stop) {k : List ℕ} → channel supply schedule v m ≡ stopAnswer x k → channels supply schedule s buffer ≡ stopAnswer x k
-      unfolding channels
-      blue-stop x q = then-got _ _ s buffer e ∙ then-got _ _ u l h ∙ then-stop _ _ v m q
-
-      pub blue-got : {b : ℕ} {w : ParserSource} {k : List ℕ} → channel supply schedule v m ≡ gives b w k → channels supply schedule s buffer ≡ ending supply schedule r g b w k
-      unfolding channels
-      blue-got q = then-got _ _ s buffer e ∙ then-got _ _ u l h ∙ then-got _ _ v m q
+    pub blue-got : {b : ℕ} {w : ParserSource} {k : List ℕ} → channel supply schedule v m ≡ gives b w k → channels supply schedule s buffer ≡ ending supply schedule r g b w k
+    unfolding channels
+    blue-got q = then-got _ _ s buffer e ∙ then-got _ _ u l h ∙ then-got _ _ v m q

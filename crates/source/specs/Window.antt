@@ -13,6 +13,7 @@ use Rattle.source.specs.declared.Check.{Check}
 use Rattle.source.specs.declared.Check.the-variants.{Fine, Bad}
 use Rattle.source.specs.declared.reads.Reads.{Reads}
 use Rattle.payload.specs.declared.answers.Text.{Text}
+use Rattle.payload.specs.Texts.{partOf}
 use Rattle.source.specs.Reads.{one, fill}
 
 -- ---- the state
@@ -129,7 +130,7 @@ module _ (supply : List ℕ) where
 
   -- the bytes of a text; none where it does not lie within those that hold the window
   abbrev pub textIn : Text → ParserSource → List ℕ → List ℕ
-  textIn t s buffer = pick (leb (t .start + t .len) (length (heldIn s buffer))) (take (t .len) (drop (t .start) (heldIn s buffer))) []
+  textIn t s buffer = partOf (heldIn s buffer) t
 
   -- the part that an answer hands over: empty where there is nothing or it is refused
   unfoldable pub takenPart : Step Text → List ℕ

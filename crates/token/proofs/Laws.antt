@@ -3,10 +3,9 @@ use Prim.Native.Nat.{ℕ, _+_, _-_, _≤_, _<_, zero-le}
 use native.Mathlib.Nat.{add-zero}
 use native.Mathlib.Omega.{arith}
 use mathlib.Core.Path.{_≡_, refl, sym, ap, _∙_}
-use mathlib.Core.Bool.{Bool, true, false}
+use mathlib.Core.Bool.{Bool}
 use mathlib.Core.List.{List, []}
-use lib.ListN.{length}
-use borrow.Author.Tests.{le-leb, lt-leb}
+use borrow.Author.Tests.{le-leb}
 use Rattle.form.specs.Refusals.{Fault}
 use Rattle.form.specs.Values as F
 use Rattle.form.specs.Table.{Payload, number, text, colour, nothing, after}
@@ -24,7 +23,6 @@ use Rattle.payload.specs.declared.answers.ReadId.{ReadId}
 use Rattle.payload.specs.declared.answers.ReadId.the-variants.{Got}
 use Rattle.payload.proofs.Laws.{gotOf, elseOf}
 use Rattle.token.specs.Tokens.{tokenOf, tokenAt, alphaFor}
-use Rattle.token.specs.Texts.{lies}
 use Rattle.token.specs.declared.Token.{Token}
 use Rattle.token.specs.declared.Token.the-variants as T
 
@@ -130,12 +128,3 @@ module _ (s : List ℕ) (p : ℕ) where
 -- the bytes of a compact number, by its place in its range of ids
 pub compact-is : (x b : ℕ) (negative : Bool) → x < b + 8 → number (x - b) (λ n. F.F64 (signedBy negative n)) ≡ compactOf (x - b) negative
 compact-is x b negative h = let k : x - b ≤ 7 = omega arith in rw (le-leb (x - b) 7 k)
-
--- ---- a text's place
-
-module _ (s : List ℕ) (t : Text) where
-  pub within : t .start + t .len ≤ length s → lies s t ≡ true
-  within h = le-leb (t .start + t .len) (length s) h
-
-  pub beyond : length s < t .start + t .len → lies s t ≡ false
-  beyond h = lt-leb (t .start + t .len) (length s) h

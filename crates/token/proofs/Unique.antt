@@ -6,7 +6,8 @@ use mathlib.Core.List.{List}
 use Rattle.payload.specs.declared.answers.Text.{Text}
 use Rattle.payload.proofs.Unique.{refusal-one}
 use Rattle.token.specs.Tokens.{tokenAnswer, tokenAt}
-use Rattle.token.specs.Texts.{placeAnswer, placeOf, partOf}
+use Rattle.payload.specs.Texts.{partOf}
+use Rattle.token.specs.Texts.{placeAnswer, placeOf}
 use Rattle.token.specs.declared.ReadToken.{ReadToken}
 use Rattle.token.specs.declared.ReadToken.the-variants.{Got, Refused}
 use Rattle.token.specs.declared.texts.TextAnswer.{TextAnswer}

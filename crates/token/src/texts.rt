@@ -1,6 +1,7 @@
 // The text of a string token.
 ghost use mathlib.Core.Path.{_≡_};
-ghost use Rattle.token.specs.Texts.{placeAnswer, placeOf, partOf};
+ghost use Rattle.payload.specs.Texts.{partOf};
+ghost use Rattle.token.specs.Texts.{placeAnswer, placeOf};
 use payload::Text;
 
 // Whether a text lies within the bytes; a text at a bad place is named by its start.

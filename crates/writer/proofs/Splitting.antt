@@ -22,7 +22,8 @@ use Rattle.payload.specs.declared.answers.Text.{Text as Place}
 use Rattle.token.specs.declared.Token.{Token}
 use Rattle.token.specs.declared.Token.the-variants as T
 use Rattle.token.specs.Tokens.{valueOf}
-use Rattle.token.specs.Texts.{lies, placeOf, partOf}
+use Rattle.payload.specs.Texts.{lies, partOf}
+use Rattle.token.specs.Texts.{placeOf}
 use Rattle.writer.specs.Writes.{misplaced, writeToken}
 use Rattle.writer.specs.declared.parts.Parts.{Parts}
 use Rattle.writer.specs.declared.parts.Parts.the-variants.{Number, Text, Lookup, Rgb, Id}

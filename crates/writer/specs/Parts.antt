@@ -17,7 +17,8 @@ use Rattle.payload.specs.declared.answers.Alpha.{Alpha}
 use Rattle.payload.specs.declared.answers.Rgb.{Rgb as Colour}
 use Rattle.payload.specs.Answers.{alphaOf}
 use Rattle.token.specs.declared.Token.{Token}
-use Rattle.token.specs.Texts.{placeOf, partOf}
+use Rattle.payload.specs.Texts.{partOf}
+use Rattle.token.specs.Texts.{placeOf}
 use Rattle.writer.specs.Writes.{writeToken}
 use Rattle.writer.specs.declared.parts.Parts.{Parts}
 use Rattle.writer.specs.declared.parts.Parts.the-variants.{Number, Text, Lookup, Rgb, Id}

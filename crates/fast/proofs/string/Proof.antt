@@ -3,7 +3,7 @@ use native.Mathlib.Omega.{arith}
 use mathlib.Core.Path.{_∙_}
 use Rattle.payload.specs.Answers.{textAnswer}
 use Rattle.payload.proofs.Laws.{gotOf}
-use Rattle.fast.proofs.Laws.{text-within, text-got, text-never}
+use Rattle.fast.proofs.Laws.{text-within, text-got, text-slow}
 use borrow.Author.Needs.{needs}
 use Rattle.fast.proofs.string.Statement.{statement}
 use Rattle.fast.proofs.string.Tie as tie
@@ -24,7 +24,7 @@ returns : tie.Need-returns
 returns c =
     let a = c .before .before .before .before .before in
     c .slow .ensures
-    ∙ text-never (a .args .window .now) (a .pre) (a .args .kind) (a .args .held)
+    ∙ text-slow (a .args .window .now) (a .pre) (a .args .kind) (a .args .held)
     (gotOf textAnswer (c .before .before .before .read-string .ensures) (c .before .enum-told .given .1))
 
 hold-requires : tie.Need-hold-requires

@@ -8,7 +8,8 @@ use borrow.Author.Tests.{lt-ltb, le-ltb}
 use denote.Ref.{now}
 use Rattle.form.specs.Refusals.{BadPlace}
 use Rattle.form.specs.Writing.{outcome, unless}
-use Rattle.token.specs.Texts.{placeOf, partOf, placeAnswer}
+use Rattle.payload.specs.Texts.{partOf}
+use Rattle.token.specs.Texts.{placeOf, placeAnswer}
 use Rattle.writer.specs.Parts.{spelledBy, misplacedBy, writableBy, writeBy}
 use Rattle.writer.proofs.Sizes.{text-size}
 use Rattle.writer.proofs.Splitting.{part-length}

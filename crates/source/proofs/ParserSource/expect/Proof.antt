@@ -1,9 +1,10 @@
 -- `source::ParserSource::expect` meets its contract. Assumes nothing.
 use mathlib.Core.Path.{refl, sym, _∙_}
 use denote.Ref.{now}
+use Rattle.source.specs.Binary.{expected}
 use Rattle.source.specs.Answers.{idAnswer, idStop}
 use Rattle.source.proofs.Laws.{gotOf, elseOf}
-use Rattle.source.proofs.Through.{expected-is, expected-not, expected-stop}
+use Rattle.source.proofs.Through.{then-stop, expected-is, expected-not}
 use borrow.Author.Needs.{needs}
 use Rattle.source.proofs.ParserSource.expect.Statement.{statement}
 use Rattle.source.proofs.ParserSource.expect.Tie as tie
@@ -24,9 +25,8 @@ same-length : tie.Need-same-length
 same-length c = search needs
 
 returns : tie.Need-returns
-returns c =
-    let a = c .before .before .before .before .before .before .before .before .before .before .args in
-    sym (expected-stop (now (a .supply)) (now (a .schedule)) (a .self) (now (a .buffer)) (a .id .0) (c .stop .result) (elseOf idAnswer idStop (c .before .before .before .before .before .read-lexeme-id .ensures) (c .before .enum-told .given .1) (c .stop .ensures) refl))
+unfolding expected
+returns c = sym (then-stop _ _ _ _ (elseOf idAnswer idStop (c .before .before .before .before .before .read-lexeme-id .ensures) (c .before .enum-told .given .1) (c .stop .ensures) refl))
 
 is-requires : tie.Need-is-requires
 is-requires c κs = search needs

@@ -4,9 +4,10 @@ use denote.Ref.{now}
 use mathlib.Core.Option.{some}
 use Prim.Native.Nat.{ℕ}
 use Rattle.source.specs.Window.{gives}
+use Rattle.source.specs.Binary.{peekedId, mappedOption}
 use Rattle.source.specs.Answers.{triedAnswer}
 use Rattle.source.proofs.Laws.{gotOf}
-use Rattle.source.proofs.Through.{peeked-there, peeked-id-got, peeked-id-none, peeked-id-stop}
+use Rattle.source.proofs.Through.{peeked-there, then-got, then-stop}
 use borrow.Author.Needs.{needs}
 use Rattle.source.proofs.ParserSource.peek_lexeme_id.Statement.{statement}
 use Rattle.source.proofs.ParserSource.peek_lexeme_id.Tie as tie
@@ -35,29 +36,28 @@ same-length : tie.Need-same-length
 same-length c = search needs
 
 returns : tie.Need-returns
+unfolding peekedId mappedOption
 returns c =
-    let a = c .before .before .before .before .before .before .before .before .before .before .before .before .before .args in
     let o = c .before .before .before .before .before .before .before .before .peek in
     let t = c .before .before .before .before .t .given in
     ap (λ (i : ℕ). gives (some i) (t .0 .1 .0) (o .last .1 .1 .0)) (c .new .ensures ∙ c .before .u16-at .ensures)
-    ∙ sym (peeked-id-got (now (a .supply)) (now (a .schedule)) (a .self) (now (a .buffer)) (gotOf triedAnswer (o .ensures) (t .1)))
+    ∙ sym (then-got _ _ _ _ (gotOf triedAnswer (o .ensures) (t .1)))
 
 same-length-2 : tie.Need-same-length-2
 same-length-2 c = search needs
 
 returns-2 : tie.Need-returns-2
-returns-2 c =
-    let a = c .before .before .before .before .before .before .before .before .before .before .args in
-    sym (peeked-id-none (now (a .supply)) (now (a .schedule)) (a .self) (now (a .buffer)) (gotOf triedAnswer (c .before .before .before .before .before .peek .ensures) (c .before .t2 .given .1)))
+unfolding peekedId mappedOption
+returns-2 c = sym (then-got _ _ _ _ (gotOf triedAnswer (c .before .before .before .before .before .peek .ensures) (c .before .t2 .given .1)))
 
 same-length-3 : tie.Need-same-length-3
 same-length-3 c = search needs
 
 returns-3 : tie.Need-returns-3
+unfolding peekedId
 returns-3 c =
-    let a = c .before .before .before .before .before .before .before .before .before .before .args in
     let t = c .before .t3 .given in
-    sym (peeked-id-stop (now (a .supply)) (now (a .schedule)) (a .self) (now (a .buffer)) (t .0 .0) (gotOf triedAnswer (c .before .before .before .before .before .peek .ensures) (t .1)))
+    sym (then-stop _ _ _ _ (gotOf triedAnswer (c .before .before .before .before .before .peek .ensures) (t .1)))
 
 pub peek-lexeme-id-spec : {M : Type 1} → statement M
 peek-lexeme-id-spec =

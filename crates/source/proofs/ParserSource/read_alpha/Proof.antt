@@ -1,9 +1,10 @@
 -- `source::ParserSource::read_alpha` meets its contract. Assumes nothing.
 use mathlib.Core.Path.{refl, sym}
 use denote.Ref.{now}
+use Rattle.source.specs.Binary.{withAlpha}
 use Rattle.source.specs.Answers.{u32Answer, u32Stop, ensuredAnswer, ensuredStop}
 use Rattle.source.proofs.Laws.{gotOf, elseOf}
-use Rattle.source.proofs.Through.{alpha-stop, alpha-got, alpha-end-stop}
+use Rattle.source.proofs.Through.{then-stop, alpha-got, alpha-end-stop}
 use borrow.Author.Needs.{needs}
 use Rattle.source.proofs.ParserSource.read_alpha.Statement.{statement}
 use Rattle.source.proofs.ParserSource.read_alpha.Tie as tie
@@ -24,9 +25,8 @@ same-length : tie.Need-same-length
 same-length c = search needs
 
 returns : tie.Need-returns
-returns c =
-    let a = c .before .before .before .before .before .before .before .before .before .before .args in
-    sym (alpha-stop (now (a .supply)) (now (a .schedule)) (a .self) (now (a .buffer)) (a .r) (a .g) (a .b) (c .stop .result) (elseOf u32Answer u32Stop (c .before .before .before .before .before .take-u32 .ensures) (c .before .enum-told .given .1) (c .stop .ensures) refl))
+unfolding withAlpha
+returns c = sym (then-stop _ _ _ _ (elseOf u32Answer u32Stop (c .before .before .before .before .before .take-u32 .ensures) (c .before .enum-told .given .1) (c .stop .ensures) refl))
 
 expect-requires : tie.Need-expect-requires
 expect-requires c κs = search needs

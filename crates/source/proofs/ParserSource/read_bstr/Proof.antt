@@ -2,10 +2,10 @@
 use mathlib.Core.Path.{refl, sym, ap, _∙_}
 use denote.Ref.{now}
 use Prim.Native.Nat.{ℕ}
-use Rattle.source.specs.Binary.{stringOf}
+use Rattle.source.specs.Binary.{stringOf, string}
 use Rattle.source.specs.Answers.{ensuredAnswer, ensuredStop}
 use Rattle.source.proofs.Laws.{gotOf, elseOf}
-use Rattle.source.proofs.Through.{ready-there, string-got, string-stop}
+use Rattle.source.proofs.Through.{ready-there, then-got, then-stop}
 use borrow.Author.Needs.{needs}
 use Rattle.source.proofs.ParserSource.read_bstr.Statement.{statement}
 use Rattle.source.proofs.ParserSource.read_bstr.Tie as tie
@@ -26,9 +26,8 @@ same-length : tie.Need-same-length
 same-length c = search needs
 
 returns : tie.Need-returns
-returns c =
-    let a = c .before .before .before .before .before .before .before .before .before .before .args in
-    sym (string-stop (now (a .supply)) (now (a .schedule)) (a .self) (now (a .buffer)) (c .stop .result) (elseOf ensuredAnswer ensuredStop (c .before .before .before .before .before .ensure-bytes .ensures) (c .before .enum-told .given .1) (c .stop .ensures) refl))
+unfolding string
+returns c = sym (then-stop _ _ _ _ (elseOf ensuredAnswer ensuredStop (c .before .before .before .before .before .ensure-bytes .ensures) (c .before .enum-told .given .1) (c .stop .ensures) refl))
 
 u16-at-requires : tie.Need-u16-at-requires
 u16-at-requires c κs =
@@ -45,13 +44,14 @@ same-length-2 : tie.Need-same-length-2
 same-length-2 c = search needs
 
 returns-2 : tie.Need-returns-2
+unfolding string
 returns-2 c =
     let a = c .before .before .before .before .before .before .before .before .before .before .before .before .before .before .before .before .args in
     let o = c .before .before .before .before .before .before .before .before .before .before .before .ensure-bytes in
     let e = c .before .before .before .before .before .before .before .e .given in
     c .before .before .read-text .ensures
     ∙ ap (λ (n : ℕ). stringOf (now (a .supply)) (now (a .schedule)) n (e .0 .0) (o .last .1 .1 .0)) (c .before .before .before .before .u16-at .ensures)
-    ∙ sym (string-got (now (a .supply)) (now (a .schedule)) (a .self) (now (a .buffer)) (gotOf ensuredAnswer (o .ensures) (e .1)))
+    ∙ sym (then-got _ _ _ _ (gotOf ensuredAnswer (o .ensures) (e .1)))
 
 pub read-bstr-spec : {M : Type 1} → statement M
 read-bstr-spec =

@@ -1,9 +1,10 @@
 -- `source::ParserSource::read_channels` meets its contract. Assumes nothing.
 use mathlib.Core.Path.{refl, sym, _∙_}
 use denote.Ref.{now}
+use Rattle.source.specs.Binary.{channels}
 use Rattle.source.specs.Answers.{u32Answer, u32Stop}
 use Rattle.source.proofs.Laws.{gotOf, elseOf}
-use Rattle.source.proofs.Through.{red-stop, green-stop, blue-stop, blue-got}
+use Rattle.source.proofs.Through.{then-stop, green-stop, blue-stop, blue-got}
 use borrow.Author.Needs.{needs}
 use Rattle.source.proofs.ParserSource.read_channels.Statement.{statement}
 use Rattle.source.proofs.ParserSource.read_channels.Tie as tie
@@ -24,9 +25,8 @@ same-length : tie.Need-same-length
 same-length c = search needs
 
 returns : tie.Need-returns
-returns c =
-    let a = c .before .before .before .before .before .before .before .before .before .before .args in
-    sym (red-stop (now (a .supply)) (now (a .schedule)) (a .self) (now (a .buffer)) (c .stop .result) (elseOf u32Answer u32Stop (c .before .before .before .before .before .read-channel .ensures) (c .before .enum-told .given .1) (c .stop .ensures) refl))
+unfolding channels
+returns c = sym (then-stop _ _ _ _ (elseOf u32Answer u32Stop (c .before .before .before .before .before .read-channel .ensures) (c .before .enum-told .given .1) (c .stop .ensures) refl))
 
 read-channel-requires-2 : tie.Need-read-channel-requires-2
 read-channel-requires-2 c κs = search needs

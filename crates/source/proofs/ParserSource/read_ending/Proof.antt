@@ -1,9 +1,10 @@
 -- `source::ParserSource::read_ending` meets its contract. Assumes nothing.
 use mathlib.Core.Path.{refl, sym, _∙_}
 use denote.Ref.{now}
+use Rattle.source.specs.Binary.{ending}
 use Rattle.source.specs.Answers.{idAnswer, idStop}
 use Rattle.source.proofs.Laws.{gotOf, elseOf}
-use Rattle.source.proofs.Through.{ending-stop, ending-close, ending-alpha, ending-other}
+use Rattle.source.proofs.Through.{then-stop, ending-close, ending-alpha, ending-other}
 use borrow.Author.Needs.{needs}
 use Rattle.source.proofs.ParserSource.read_ending.Statement.{statement}
 use Rattle.source.proofs.ParserSource.read_ending.Tie as tie
@@ -24,9 +25,8 @@ same-length : tie.Need-same-length
 same-length c = search needs
 
 returns : tie.Need-returns
-returns c =
-    let a = c .before .before .before .before .before .before .before .before .before .before .args in
-    sym (ending-stop (now (a .supply)) (now (a .schedule)) (a .self) (now (a .buffer)) (a .r) (a .g) (a .b) (c .stop .result) (elseOf idAnswer idStop (c .before .before .before .before .before .read-lexeme-id .ensures) (c .before .enum-told .given .1) (c .stop .ensures) refl))
+unfolding ending
+returns c = sym (then-stop _ _ _ _ (elseOf idAnswer idStop (c .before .before .before .before .before .read-lexeme-id .ensures) (c .before .enum-told .given .1) (c .stop .ensures) refl))
 
 read-alpha-requires : tie.Need-read-alpha-requires
 read-alpha-requires c κs = search needs

@@ -5,10 +5,11 @@ use Prim.Native.Nat.{_+_}
 use native.Mathlib.Omega.{arith}
 use Rattle.source.specs.declared.ParserSource.{ParserSource}
 use Rattle.source.specs.Window.{gives, textAt}
+use Rattle.source.specs.Binary.{stringOf}
 use Rattle.source.specs.Answers.{ensuredAnswer}
 use Rattle.source.proofs.Cases.{ready}
 use Rattle.source.proofs.Laws.{gotOf}
-use Rattle.source.proofs.Through.{string-of-got, string-of-stop}
+use Rattle.source.proofs.Through.{then-got, then-stop}
 use borrow.Author.Needs.{needs}
 use Rattle.source.proofs.ParserSource.read_text.Statement.{statement}
 use Rattle.source.proofs.ParserSource.read_text.Tie as tie
@@ -41,21 +42,22 @@ same-length : tie.Need-same-length
 same-length c = search needs
 
 returns : tie.Need-returns
+unfolding stringOf
 returns c =
     let a = c .before .before .before .before .before .before .before .before .before .before .before .before .args in
     let o = c .before .before .before .before .before .before .before .ensure-bytes in
     let e = c .before .before .before .e .given in
     ap (λ (s : ParserSource). gives (textAt (e .0 .0 .start + 2) (a .len)) s (o .last .1 .1 .0)) (c .past .ensures)
-    ∙ sym (string-of-got (now (a .supply)) (now (a .schedule)) (a .self) (now (a .buffer)) (a .len) (gotOf ensuredAnswer (o .ensures) (e .1)))
+    ∙ sym (then-got _ _ _ _ (gotOf ensuredAnswer (o .ensures) (e .1)))
 
 same-length-2 : tie.Need-same-length-2
 same-length-2 c = search needs
 
 returns-2 : tie.Need-returns-2
+unfolding stringOf
 returns-2 c =
-    let a = c .before .before .before .before .before .before .before .before .before .before .args in
     let e = c .before .e2 .given in
-    sym (string-of-stop (now (a .supply)) (now (a .schedule)) (a .self) (now (a .buffer)) (a .len) (e .0 .0) (gotOf ensuredAnswer (c .before .before .before .before .before .ensure-bytes .ensures) (e .1)))
+    sym (then-stop _ _ _ _ (gotOf ensuredAnswer (c .before .before .before .before .before .ensure-bytes .ensures) (e .1)))
 
 pub read-text-spec : {M : Type 1} → statement M
 read-text-spec =

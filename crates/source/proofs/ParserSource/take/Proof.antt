@@ -5,9 +5,10 @@ use denote.Ref.{now}
 use borrow.Author.Needs.{needs}
 use Rattle.source.specs.Answers.{ensuredAnswer}
 use Rattle.source.specs.declared.ParserSource.{ParserSource}
-use Rattle.source.specs.Window.{gives, textAt}
+use Rattle.source.specs.Window.{gives, textAt, taken}
 use Rattle.source.proofs.Cases.{ready}
-use Rattle.source.proofs.Laws.{gotOf, taken-ready, taken-stop}
+use Rattle.source.proofs.Laws.{gotOf}
+use Rattle.source.proofs.Through.{then-got, then-stop}
 use Rattle.source.proofs.ParserSource.take.Statement.{statement}
 use Rattle.source.proofs.ParserSource.take.Tie as tie
 
@@ -30,20 +31,20 @@ same-length : tie.Need-same-length
 same-length c = search needs
 
 returns : tie.Need-returns
+unfolding taken
 returns c =
     let a = c .before .before .before .before .before .before .before .before .before .before .before .args in
     let o = c .before .before .before .before .before .before .ensure-bytes in
     let e = c .before .before .e .given in
     ap (λ (s : ParserSource). gives (textAt (e .0 .0 .start) (a .count)) s (o .last .1 .1 .0)) (c .past .ensures)
-    ∙ sym (taken-ready (now (a .supply)) (now (a .schedule)) (a .count) (a .self) (now (a .buffer)) (gotOf ensuredAnswer (o .ensures) (e .1)))
+    ∙ sym (then-got _ _ _ _ (gotOf ensuredAnswer (o .ensures) (e .1)))
 
 same-length-2 : tie.Need-same-length-2
 same-length-2 c = search needs
 
 returns-2 : tie.Need-returns-2
-returns-2 c =
-    let a = c .before .before .before .before .before .before .before .before .before .before .args in
-    sym (taken-stop (now (a .supply)) (now (a .schedule)) (a .count) (a .self) (now (a .buffer)) (c .before .e2 .given .0 .0) (gotOf ensuredAnswer (c .before .before .before .before .before .ensure-bytes .ensures) (c .before .e2 .given .1)))
+unfolding taken
+returns-2 c = sym (then-stop _ _ _ _ (gotOf ensuredAnswer (c .before .before .before .before .before .ensure-bytes .ensures) (c .before .e2 .given .1)))
 
 pub take-spec : {M : Type 1} → statement M
 take-spec =

@@ -1,7 +1,7 @@
 -- `token::texts::text` meets its contract. Assumes nothing.
 use native.Mathlib.Omega.{arith}
 use borrow.Author.Needs.{needs}
-use Rattle.token.proofs.Laws.{within, beyond}
+use Rattle.payload.proofs.Texts.{within, beyond}
 use Rattle.token.proofs.texts.text.Statement.{statement}
 use Rattle.token.proofs.texts.text.Tie as tie
 

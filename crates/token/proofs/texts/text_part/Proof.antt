@@ -5,7 +5,7 @@ use native.Mathlib.Omega.{arith}
 use mathlib.Core.Path.{ap}
 use lib.ListN.{take, drop}
 use borrow.Author.Needs.{needs}
-use Rattle.token.proofs.Laws.{within, beyond}
+use Rattle.payload.proofs.Texts.{within, beyond}
 use Rattle.token.proofs.texts.text_part.Statement.{statement}
 use Rattle.token.proofs.texts.text_part.Tie as tie
 

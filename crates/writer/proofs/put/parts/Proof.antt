@@ -4,7 +4,7 @@ use mathlib.Core.Path.{sym}
 use native.Mathlib.Omega.{arith}
 use denote.Ref.{now}
 use Rattle.form.proofs.LittleEndian.{length-bytes}
-use Rattle.token.specs.Texts.{partOf}
+use Rattle.payload.specs.Texts.{partOf}
 use Rattle.writer.specs.Parts.{spelledBy}
 use Rattle.writer.proofs.Sizes.{number-size, text-size}
 use Rattle.writer.proofs.Ids.{lookup-is}
