@@ -13,7 +13,7 @@ use Rattle.form.specs.Calls as F
 use Rattle.source.specs.declared.ParserSource.{ParserSource}
 use Rattle.source.specs.Window.{Step, gives, Call, andThen, ifGiven, unread, heldIn, window, takenPart, windowLen, windowOf}
 use Rattle.source.proofs.Cases.{by-check, held}
-use Rattle.capi.specs.Replies.{Reply, returned, into}
+use Rattle.capi.specs.Replies.{SHORT_ANSWER, BAD_ARGUMENT, Reply, returned, into}
 use Rattle.capi.specs.Code.{asReply}
 use Rattle.capi.specs.Sources.{stateWords, stateOf, withState, asked, askedNumber, Left, leaves, leftOf, left, after, calledFrom, called, partOf, windowPart}
 use Rattle.capi.specs.declared.states.Asked.{Asked}
@@ -51,7 +51,8 @@ module _ (answer state : List ℕ) {a : Asked} (ask : a ≡ asked answer state) 
   six-words {s} e = go (leb 8 (length answer)) (leb 6 (length state)) refl (sym ask ∙ e)
     where
       go : (p q : Bool) → leb 6 (length state) ≡ q
-          → pick p (pick q (pick (leb (getD state 5 0) 1) (State (stateOf state)) (Bad 101)) (Bad 101)) (Bad 100) ≡ State s → 6 ≤ length state
+          → pick p (pick q (pick (leb (getD state 5 0) 1) (State (stateOf state)) (Bad BAD_ARGUMENT)) (Bad BAD_ARGUMENT)) (Bad SHORT_ANSWER) ≡ State s
+          → 6 ≤ length state
       go true true h e = leb-true _ _ h
       go true false h e = let z : _≡_ {A = ℕ} 0 1 = cc in absurd (omega arith)
       go false q h e = let z : _≡_ {A = ℕ} 0 1 = cc in absurd (omega arith)

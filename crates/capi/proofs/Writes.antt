@@ -6,12 +6,12 @@ use mathlib.Core.List.{List}
 use lib.ListN.{length}
 use borrow.Author.Tests.{lt-leb}
 use Rattle.token.specs.declared.Token.{Token}
-use Rattle.capi.specs.Replies.{returned}
+use Rattle.capi.specs.Replies.{SHORT_ANSWER, returned}
 use Rattle.capi.specs.Given.{writeReturns, writeLeaves}
 use Rattle.capi.proofs.Laws.{too-short}
 
 module _ (s l : List ℕ) (h : length l < 8) where
-  pub short-returns : (room : ℕ) (o : Option Token) → returned 100 l ≡ writeReturns room s l o
+  pub short-returns : (room : ℕ) (o : Option Token) → returned SHORT_ANSWER l ≡ writeReturns room s l o
   unfolding writeReturns
   short-returns room none = rw (lt-leb 8 (length l) h)
   short-returns room (some t) = too-short l _ h

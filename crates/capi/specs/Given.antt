@@ -16,7 +16,7 @@ use Rattle.payload.specs.declared.answers.Alpha.the-variants.{Absent, Given as 
 use Rattle.token.specs.declared.Token.{Token}
 use Rattle.token.specs.declared.Token.the-variants as T
 use Rattle.writer.specs.Writes.{writeToken}
-use Rattle.capi.specs.Replies.{Returned, returned, into}
+use Rattle.capi.specs.Replies.{SHORT_ANSWER, BAD_ARGUMENT, Returned, returned, into}
 use Rattle.capi.specs.Outputs.{outcomeReply, leftBy}
 use Rattle.capi.specs.declared.given.Given.{Given}
 use Rattle.capi.specs.declared.given.Given.the-variants as G
@@ -66,10 +66,10 @@ givenToken kind ws = pick (leb 5 (length ws)) (kindToken kind ws) none
 
 -- ---- writing it: the number returned with the answer list, and the output
 
--- where there is no token 101 is returned, and nothing is changed
+-- where there is no token nothing is changed
 unfoldable pub writeReturns : ℕ → List ℕ → List ℕ → Option Token → Returned
 writeReturns room s l (some t) = into l (outcomeReply (outcome (writeToken room s t)))
-writeReturns room s l none = pick (leb 8 (length l)) (returned 101 l) (returned 100 l)
+writeReturns room s l none = pick (leb 8 (length l)) (returned BAD_ARGUMENT l) (returned SHORT_ANSWER l)
 
 unfoldable pub writeLeaves : List ℕ → List ℕ → Option Token → List ℕ → List ℕ
 writeLeaves s l (some t) out = leftBy l (writeToken (length out) s t) out

@@ -8,6 +8,22 @@ use Rattle.form.specs.Numbers.{pick}
 use Rattle.form.specs.Refusals.{Refusal, refusalNumber, refusalValues}
 use Rattle.form.specs.Calls.{Cursor, Call, gives, refuses}
 
+-- ---- the numbers, beside those of the paper's refusals
+
+abbrev pub ANSWERED : ℕ
+ANSWERED = 0
+
+abbrev pub NONE : ℕ
+NONE = 9
+
+abbrev pub SHORT_ANSWER : ℕ
+SHORT_ANSWER = 100
+
+abbrev pub BAD_ARGUMENT : ℕ
+BAD_ARGUMENT = 101
+
+-- ---- replies
+
 pub record Reply : Type 0 where
   pub code : ℕ
   pub words : List ℕ
@@ -23,7 +39,7 @@ abbrev pub reply : ℕ → ℕ → List ℕ → Reply
 reply k p ws = record { code = k; words = p ∷ padded 7 ws }
 
 abbrev pub answered : ℕ → List ℕ → Reply
-answered p ws = reply 0 p ws
+answered p ws = reply ANSWERED p ws
 
 -- a refusal has the paper's number
 abbrev pub refused : ℕ → Refusal → Reply
@@ -31,7 +47,7 @@ refused p r = reply (refusalNumber r) p (refusalValues r)
 
 -- there is none
 abbrev pub absent : ℕ → Reply
-absent p = reply 9 p []
+absent p = reply NONE p []
 
 -- ---- the reply to a call, by the words of its value
 
@@ -57,6 +73,6 @@ pub record Returned : Type 0 where
 abbrev pub returned : ℕ → List ℕ → Returned
 returned k l = record { number = k; list = l }
 
--- a list of fewer than eight words is left alone, and 100 is returned; of a longer one the first eight are filled
+-- a list of fewer than eight words is left alone; of a longer one the first eight are filled
 unfoldable pub into : List ℕ → Reply → Returned
-into l r = pick (leb 8 (length l)) (returned (r .code) (r .words ++ drop 8 l)) (returned 100 l)
+into l r = pick (leb 8 (length l)) (returned (r .code) (r .words ++ drop 8 l)) (returned SHORT_ANSWER l)

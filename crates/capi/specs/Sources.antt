@@ -9,7 +9,7 @@ use Rattle.form.specs.Calls as F
 use Rattle.payload.specs.declared.answers.Text.{Text}
 use Rattle.source.specs.declared.ParserSource.{ParserSource}
 use Rattle.source.specs.Window.{Step, gives, refuses, Call, andThen, textAt, windowLen}
-use Rattle.capi.specs.Replies.{Reply, cursor, Returned, returned, into}
+use Rattle.capi.specs.Replies.{ANSWERED, SHORT_ANSWER, BAD_ARGUMENT, Reply, cursor, Returned, returned, into}
 use Rattle.capi.specs.Code.{asReply}
 use Rattle.capi.specs.declared.states.Asked.{Asked}
 use Rattle.capi.specs.declared.states.Asked.the-variants.{State, Bad}
@@ -38,8 +38,8 @@ withState s l = stateWords s ++ drop 6 l
 unfoldable pub asked : List ℕ → List ℕ → Asked
 asked answer state =
     pick (leb 8 (length answer))
-    (pick (leb 6 (length state)) (pick (leb (getD state 5 0) 1) (State (stateOf state)) (Bad 101)) (Bad 101))
-    (Bad 100)
+    (pick (leb 6 (length state)) (pick (leb (getD state 5 0) 1) (State (stateOf state)) (Bad BAD_ARGUMENT)) (Bad BAD_ARGUMENT))
+    (Bad SHORT_ANSWER)
 
 -- the number, where there is no state
 abbrev pub askedNumber : Asked → ℕ
@@ -48,7 +48,7 @@ askedNumber (Bad k) = k
 
 -- `from_slice` and `from_reader`: a new state, where there is room for it
 unfoldable pub begun : ParserSource → List ℕ → Returned
-begun s l = pick (leb 6 (length l)) (returned 0 (withState s l)) (returned 101 l)
+begun s l = pick (leb 6 (length l)) (returned ANSWERED (withState s l)) (returned BAD_ARGUMENT l)
 
 -- ---- a call
 

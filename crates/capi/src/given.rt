@@ -11,7 +11,7 @@ use payload::Rgb;
 use payload::Text;
 use token::Token;
 
-pub enum Given {
+pub(crate) enum Given {
     Token(Token),
     Nothing,
 }

@@ -9,6 +9,7 @@ ghost use Rattle.capi.specs.Replies.{returned, into, replyOf, replyOrNon
 ghost use Rattle.capi.specs.Words.{noWords, numberWords, boolWords, textWords, colourWords};
 ghost use Rattle.capi.specs.Code.{asReply};
 ghost use Rattle.capi.specs.Sources.{withState, leaves, leftOf, left, partOf};
+use crate::codes;
 use crate::replies;
 use crate::replies::Reply;
 use crate::states;
@@ -26,7 +27,7 @@ use source::TakenRgb;
 use source::Tried;
 use source::WindowLen;
 
-pub struct Left {
+pub(crate) struct Left {
     pub reply: Reply,
     pub next: ParserSource,
 }
@@ -54,11 +55,17 @@ fn refused(at: usize, x: ParserError) -> Reply
     ensures { λ r. ⌜ asReply r ≡ Replies.refused at (refusalOf x) ⌝ }
 {
     match x {
-        ParserError::Eof(p) => replies::coded(1, at, p as u64, 0, 0),
-        ParserError::InvalidRgb(p) => replies::coded(2, at, p as u64, 0, 0),
-        ParserError::BufferTooSmall(p) => replies::coded(5, at, p as u64, 0, 0),
-        ParserError::ReadFailed(p) => replies::coded(6, at, p as u64, 0, 0),
-        ParserError::BadPlace(p) => replies::coded(7, at, p as u64, 0, 0),
+        ParserError::Eof(p) => replies::coded(codes::EOF, at, p as u64, 0, 0),
+        ParserError::InvalidRgb(p) => replies::coded(codes::INVALID_RGB, at, p as u64, 0, 0),
+        ParserError::BufferTooSmall(p) => replies::coded(
+            codes::BUFFER_TOO_SMALL,
+            at,
+            p as u64,
+            0,
+            0,
+        ),
+        ParserError::ReadFailed(p) => replies::coded(codes::READ_FAILED, at, p as u64, 0, 0),
+        ParserError::BadPlace(p) => replies::coded(codes::BAD_PLACE, at, p as u64, 0, 0),
     }
 }
 

@@ -2,6 +2,7 @@
 // eight words into a list that they are lent.
 mod answers;
 mod bits;
+mod codes;
 pub mod counting;
 mod given;
 pub mod kinds;

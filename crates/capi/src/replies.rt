@@ -5,10 +5,11 @@ ghost use Rattle.lexer.specs.Calls.{refusalOf};
 ghost use Rattle.capi.specs.Replies as Replies;
 ghost use Rattle.capi.specs.Replies.{returned, into};
 ghost use Rattle.capi.specs.Code.{asReply};
+use crate::codes;
 use lexer::Refusal;
 use payload::LexError;
 
-pub struct Reply {
+pub(crate) struct Reply {
     pub code: u32,
     pub at: u64,
     pub a: u64,
@@ -40,13 +41,13 @@ pub(crate) fn coded(code: u32, at: usize, a: u64, b: u64, c: u64) -> Reply
 pub(crate) fn answered(at: usize, a: u64, b: u64, c: u64) -> Reply
     ensures { λ r. ⌜ asReply r ≡ Replies.answered at (a ∷ b ∷ c ∷ []) ⌝ }
 {
-    coded(0, at, a, b, c)
+    coded(codes::ANSWERED, at, a, b, c)
 }
 
 pub(crate) fn absent(at: usize) -> Reply
     ensures { λ r. ⌜ asReply r ≡ Replies.absent at ⌝ }
 {
-    coded(9, at, 0, 0, 0)
+    coded(codes::NONE, at, 0, 0, 0)
 }
 
 // With up to six words.
@@ -54,7 +55,7 @@ pub(crate) fn long(at: usize, a: u64, b: u64, c: u64, d: u64, e: u64, f: u64) ->
     ensures { λ r. ⌜ asReply r ≡ Replies.answered at (a ∷ b ∷ c ∷ d ∷ e ∷ f ∷ []) ⌝ }
 {
     Reply {
-        code: 0,
+        code: codes::ANSWERED,
         at: at as u64,
         a,
         b,
@@ -73,11 +74,11 @@ pub(crate) fn refused(at: usize, x: Refusal) -> Reply
         Refusal::Lexed(e) => {
             let k = e.kind;
             match k {
-                LexError::Eof => coded(1, at, e.position as u64, 0, 0),
-                LexError::InvalidRgb => coded(2, at, e.position as u64, 0, 0),
+                LexError::Eof => coded(codes::EOF, at, e.position as u64, 0, 0),
+                LexError::InvalidRgb => coded(codes::INVALID_RGB, at, e.position as u64, 0, 0),
             }
         }
-        Refusal::BadPlace(p) => coded(7, at, p as u64, 0, 0),
+        Refusal::BadPlace(p) => coded(codes::BAD_PLACE, at, p as u64, 0, 0),
     }
 }
 
@@ -86,7 +87,7 @@ pub(crate) fn store(answer: &mut [u64], x: Reply) -> u32
     ensures { λ r. ⌜ returned r (now (answer .exit)) ≡ into (now (answer .entry)) (asReply x) ⌝ }
 {
     if answer.len() < 8 {
-        return 100;
+        return codes::SHORT_ANSWER;
     }
     answer[0] = x.at;
     answer[1] = x.a;

@@ -4,10 +4,11 @@ ghost use Prim.Native.Nat.{_≤_};
 ghost use lib.ListN.{length};
 ghost use Rattle.capi.specs.Replies.{returned};
 ghost use Rattle.capi.specs.Sources.{stateOf, withState, asked, askedNumber, begun};
+use crate::codes;
 use source::ParserSource;
 
 // The state that is handed over, or the number to return.
-pub enum Asked {
+pub(crate) enum Asked {
     State(ParserSource),
     Bad(u32),
 }
@@ -43,13 +44,13 @@ pub(crate) fn ask(state: &[u64], answer: &[u64]) -> Asked
     ensures { λ r. ⌜ r ≡ asked (now (answer .entry)) (now (state .entry)) ⌝ }
 {
     if answer.len() < 8 {
-        return Asked::Bad(100);
+        return Asked::Bad(codes::SHORT_ANSWER);
     }
     if state.len() < 6 {
-        return Asked::Bad(101);
+        return Asked::Bad(codes::BAD_ARGUMENT);
     }
     if 1 < state[5] {
-        return Asked::Bad(101);
+        return Asked::Bad(codes::BAD_ARGUMENT);
     }
     Asked::State(of_words(state))
 }
@@ -71,8 +72,8 @@ pub(crate) fn begin(state: &mut [u64], s: ParserSource) -> u32
     ensures { λ r. ⌜ returned r (now (state .exit)) ≡ begun s (now (state .entry)) ⌝ }
 {
     if state.len() < 6 {
-        return 101;
+        return codes::BAD_ARGUMENT;
     }
     put(state, s);
-    0
+    codes::ANSWERED
 }

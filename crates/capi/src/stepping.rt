@@ -6,12 +6,13 @@ ghost use Rattle.fast.specs.Steps.{stepOf};
 ghost use Rattle.capi.specs.Code.{asReply};
 ghost use Rattle.capi.specs.Replies.{returned};
 ghost use Rattle.capi.specs.Steps.{stepReply, heldReturned, heldAfter};
+use crate::codes;
 use crate::kinds;
 use crate::replies;
 use crate::replies::Reply;
 use fast::Step;
 
-// The next token of a window: its length and its kind's number; none where it is not fast. A list of held bytes that has not eight is 101.
+// The next token of a window: its length and its kind's number; none where it is not fast. Held bytes that are not eight are a bad argument.
 #[no_mangle]
 pub extern "C" fn stivlaheim_next_token_fast(
     window: &[u8],
@@ -22,10 +23,10 @@ pub extern "C" fn stivlaheim_next_token_fast(
     ensures { λ _. ⌜ now (held .exit) ≡ heldAfter (now (held .entry)) (now (answer .entry)) (fastStep (now (window .entry)) (now (held .entry))) ⌝ }
 {
     if answer.len() < 8 {
-        return 100;
+        return codes::SHORT_ANSWER;
     }
     if held.len() != 8 {
-        return 101;
+        return codes::BAD_ARGUMENT;
     }
     let x = step(window, held);
     replies::store(answer, step_reply(x))

@@ -50,7 +50,7 @@ fn of_rgb(at: usize, x: Rgb) -> Reply
 }
 
 // Whether there is a fourth channel, and its value.
-pub struct AlphaWords {
+struct AlphaWords {
     pub given: u64,
     pub value: u64,
 }

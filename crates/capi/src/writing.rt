@@ -10,6 +10,7 @@ ghost use Rattle.capi.specs.Replies.{returned, into};
 ghost use Rattle.capi.specs.Code.{asReply};
 ghost use Rattle.capi.specs.Outputs.{outcomeReply, leftBy};
 ghost use Rattle.capi.specs.Given.{givenToken, writeReturns, writeLeaves};
+use crate::codes;
 use crate::given;
 use crate::given::Given;
 use crate::replies;
@@ -31,14 +32,14 @@ pub extern "C" fn stivlaheim_write(
     ensures { λ _. ⌜ now (out .exit) ≡ writeLeaves (now (bytes .entry)) (now (answer .entry)) (givenToken kind (now (words .entry))) (now (out .entry)) ⌝ }
 {
     if answer.len() < 8 {
-        return 100;
+        return codes::SHORT_ANSWER;
     }
     if words.len() < 5 {
-        return 101;
+        return codes::BAD_ARGUMENT;
     }
     let g = given::of_words(kind, words);
     let Given::Token(t) = g else {
-        return 101;
+        return codes::BAD_ARGUMENT;
     };
     let x = writer::write(bytes, t, out);
     replies::store(answer, wrote_reply(x))
@@ -49,9 +50,9 @@ fn wrote_reply(x: Wrote) -> Reply
 {
     match x {
         Wrote::Written(n) => replies::answered(n, 0, 0, 0),
-        Wrote::NotEncodable(p) => replies::coded(3, 0, p as u64, 0, 0),
-        Wrote::NoRoom(n) => replies::coded(4, 0, n as u64, 0, 0),
-        Wrote::BadPlace(p) => replies::coded(7, 0, p as u64, 0, 0),
+        Wrote::NotEncodable(p) => replies::coded(codes::NOT_ENCODABLE, 0, p as u64, 0, 0),
+        Wrote::NoRoom(n) => replies::coded(codes::NO_ROOM, 0, n as u64, 0, 0),
+        Wrote::BadPlace(p) => replies::coded(codes::BAD_PLACE, 0, p as u64, 0, 0),
     }
 }
 
@@ -62,7 +63,7 @@ pub extern "C" fn stivlaheim_normalise(bytes: &[u8], out: &mut [u8], answer: &mu
     ensures { λ _. ⌜ now (out .exit) ≡ leftBy (now (answer .entry)) (Writing·normalise (length (now (out .entry))) (now (bytes .entry))) (now (out .entry)) ⌝ }
 {
     if answer.len() < 8 {
-        return 100;
+        return codes::SHORT_ANSWER;
     }
     let x = normaliser::normalise(bytes, out);
     replies::store(answer, normalised_reply(x))
@@ -73,11 +74,11 @@ fn normalised_reply(x: Normalised) -> Reply
 {
     match x {
         Normalised::Written(n) => replies::answered(n, 0, 0, 0),
-        Normalised::Eof(p) => replies::coded(1, 0, p as u64, 0, 0),
-        Normalised::InvalidRgb(p) => replies::coded(2, 0, p as u64, 0, 0),
-        Normalised::NotEncodable(p) => replies::coded(3, 0, p as u64, 0, 0),
-        Normalised::NoRoom(n) => replies::coded(4, 0, n as u64, 0, 0),
-        Normalised::TooLong(n) => replies::coded(8, 0, n as u64, 0, 0),
+        Normalised::Eof(p) => replies::coded(codes::EOF, 0, p as u64, 0, 0),
+        Normalised::InvalidRgb(p) => replies::coded(codes::INVALID_RGB, 0, p as u64, 0, 0),
+        Normalised::NotEncodable(p) => replies::coded(codes::NOT_ENCODABLE, 0, p as u64, 0, 0),
+        Normalised::NoRoom(n) => replies::coded(codes::NO_ROOM, 0, n as u64, 0, 0),
+        Normalised::TooLong(n) => replies::coded(codes::TOO_LONG, 0, n as u64, 0, 0),
     }
 }
 
@@ -88,7 +89,7 @@ pub extern "C" fn stivlaheim_list(bytes: &[u8], out: &mut [u8], answer: &mut [u6
     ensures { λ _. ⌜ now (out .exit) ≡ leftBy (now (answer .entry)) (Listing·list (length (now (out .entry))) (now (bytes .entry))) (now (out .entry)) ⌝ }
 {
     if answer.len() < 8 {
-        return 100;
+        return codes::SHORT_ANSWER;
     }
     let x = listing::list(bytes, out);
     replies::store(answer, listed_reply(x))
@@ -99,7 +100,7 @@ fn listed_reply(x: Listed) -> Reply
 {
     match x {
         Listed::Written(n) => replies::answered(n, 0, 0, 0),
-        Listed::NoRoom(n) => replies::coded(4, 0, n as u64, 0, 0),
-        Listed::TooLong(n) => replies::coded(8, 0, n as u64, 0, 0),
+        Listed::NoRoom(n) => replies::coded(codes::NO_ROOM, 0, n as u64, 0, 0),
+        Listed::TooLong(n) => replies::coded(codes::TOO_LONG, 0, n as u64, 0, 0),
     }
 }

@@ -19,7 +19,7 @@ use text::put_word;
 use token::Token;
 
 // What shows a value.
-pub enum Shape {
+enum Shape {
     Nothing,
     Number(u64),
     Signed(i64),
@@ -30,7 +30,7 @@ pub enum Shape {
 }
 
 // The name of a kind, in the first bytes of eight, and what shows the value.
-pub struct Parts {
+struct Parts {
     pub name: [u8; 8],
     pub len: usize,
     pub shape: Shape,

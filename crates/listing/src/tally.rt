@@ -6,7 +6,7 @@ ghost use Rattle.listing.specs.Tallies.{Sound, none, After};
 use token::Token;
 
 // What has been counted up to a place, the depth there, and whether the token before it is a key if Equal comes.
-pub struct Tally {
+pub(crate) struct Tally {
     pub tokens: usize,
     pub containers: usize,
     pub keys: usize,

@@ -19,22 +19,21 @@ use Rattle.form.specs.Table.{number, entries}
 use Rattle.form.specs.Readers.{Answer, Reader, found, refused, further, andThen, mapped, placed, at}
 use Rattle.form.specs.Reading.{next as nextOf, num, string, rgb, payload, token}
 use Rattle.form.specs.Spelling.{spell, wide, writable}
-use Rattle.form.specs.Saves.{step}
 use Rattle.form.proofs.LittleEndian.{drop-bytes, bytes-all}
 use Rattle.form.proofs.Places.{took, num-there, at-giving, by-id, string-then}
 use Rattle.form.proofs.Elsewhere.{eachId, listed, MissedAll, elsewhere}
-use Rattle.form.proofs.Sound.{Sound, token-sound}
 use Rattle.form.proofs.Standing as Standing
 use Rattle.form.proofs.Standing.{KeptNumber, KeptText, KeptColour, number-stands, text-stands, colour-stands, alone, plain-alone, alone-kept}
-use Rattle.form.proofs.Walking.{from, from-step}
+use Rattle.token.proofs.Walks.{read}
 use Rattle.writer.proofs.Fitting.{never}
 use Rattle.normaliser.specs.declared.spelling.Spelling.{Spelling}
 use Rattle.normaliser.specs.declared.spelling.Spelling.the-variants.{Stands, F64, Lookup, Otherwise}
 use Rattle.normaliser.specs.declared.spelling.Run.{Run}
 use Rattle.normaliser.specs.declared.spelling.Run.the-variants as R
-use Rattle.normaliser.specs.Parts.{gives, rest, between}
+use Rattle.normaliser.specs.Parts.{between}
 use Rattle.normaliser.specs.Spellings.{Below, Within, Floats, Indexes, Token, Spelt, Stand, Ran}
-use Rattle.normaliser.proofs.Parts.{gives-then, spells-then, spells-none, between-then, between-none}
+use Rattle.normaliser.proofs.Parts.{spells-then, spells-none, between-then, between-none}
+use Rattle.normaliser.proofs.Steps.{read-spells}
 
 -- ---- what the leaves answer
 
@@ -86,24 +85,12 @@ ended f s p {a} {q} e = go (f (drop p s)) refl e
 
 module _ (s : List ℕ) (b : (j : ℕ) → Fits w8 (getD s j 0)) (p : ℕ) where
   -- what is read there is spelled as its value is
-  token-spells : {v : F.Value} {n : ℕ} → token (drop p s) ≡ found v n → wide v ≡ false → Token s p (p + n) (spell v)
-  unfolding rest from step
-  token-spells {v} {n} e w =
-      let k : Sound (drop p s) v n = rw e at (token-sound (drop p s) (drop-bytes p s (bytes-all s b))) in
-      let l : p < length s = omega (arith, k .some, k .there, length-drop p s) in
-      let less : p + n - p ≡ n = omega arith in
-      let walks : from s p ≡ _ = from-step s p l ∙ ap (λ (a : Answer F.Value). step p a (λ m. from s (p + m))) e in (
-        omega (arith, k .some),
-        record {
-          on = omega arith;
-          there = omega (arith, k .there, length-drop p s);
-          short = rw less (k .short);
-          is = ap gives walks ∙ gives-then p n v (from s (p + n)) w;
-        },
-      )
+  token-spells : {v : F.Value} {n : ℕ} → at token s p ≡ found v n → wide v ≡ false → Token s p n (spell v)
+  token-spells e w = let r = read s p e in (r .on, read-spells (bytes-all s b) r w)
 
   stands : {n : ℕ} → Standing.Stands (drop p s) n → Spelt s p (Stands (p + n))
-  stands {n} k = let less : p + n - p ≡ n = omega arith in rw (less, ← k .same) (token-spells (k .read) (k .narrow))
+  unfolding at further
+  stands {n} k = let less : p + n - p ≡ n = omega arith in rw (less, ← k .same) (token-spells (ap (further p) (k .read)) (k .narrow))
 
   module _ {i next : ℕ} (e : at (num 2) s p ≡ found i next) where
     after : drop next s ≡ drop 2 (drop p s)
@@ -151,9 +138,7 @@ module _ (s : List ℕ) (b : (j : ℕ) → Fits w8 (getD s j 0)) (p : ℕ) where
     -- otherwise, by the value of the number after its id
     value-spells : {w x q : ℕ} {f : ℕ → F.Value} → T.after i ≡ number w f → at (num w) s next ≡ found x q → wide (f x) ≡ false → Token s p q (spell (f x))
     unfolding payload mapped
-    value-spells {w} {x} {q} {f} k h n =
-        let c = ended token s p (by-id s p e k ∙ at-giving (num w) f s next ∙ ap (mapped f) h) in
-        rw (c .ends) (token-spells (c .read) n)
+    value-spells {w} {x} {q} {f} k h n = token-spells (by-id s p e k ∙ at-giving (num w) f s next ∙ ap (mapped f) h) n
 
     pub lookup-arm : {w : ℕ} → T.after i ≡ number w F.Lookup → (r : Spelling) → Indexes (at (num w) s next) r → Spelt s p r
     unfolding wide kind writable

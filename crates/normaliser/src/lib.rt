@@ -48,7 +48,7 @@ fn place(need: usize, room: usize) -> usize
 }
 
 // The place after a token, and how many bytes it is spelled by; or its refusal.
-pub enum Respelled {
+enum Respelled {
     To(usize, usize),
     Refused(Normalised),
 }

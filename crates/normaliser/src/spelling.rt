@@ -13,7 +13,7 @@ use payload::ReadU16;
 use payload::ReadU32;
 use payload::ReadU64;
 
-pub enum Spelling {
+enum Spelling {
     // As it stands, up to a place.
     Stands(usize),
     // As this float or lookup; and the place after it.
@@ -24,7 +24,7 @@ pub enum Spelling {
 }
 
 // Up to where tokens stand as they are spelled, and how the one after them is spelled.
-pub enum Run {
+pub(crate) enum Run {
     F64(usize, u64, usize),
     Lookup(usize, u32, usize),
     Otherwise(usize),

@@ -14,18 +14,18 @@ use lexeme::LexemeId;
 use lexeme::number;
 
 // An id and the four bytes after it.
-pub struct Channel {
+struct Channel {
     pub id: LexemeId,
     pub value: u32,
 }
 
-pub enum ReadChannel {
+enum ReadChannel {
     Got(Channel, usize),
     Refused(LexError),
 }
 
 impl ReadChannel {
-    pub(crate) fn refusal(self) -> LexError
+    fn refusal(self) -> LexError
         ensures { λ r. ⌜ faultOf r ≡ why (channelAnswer self) ⌝ }
     {
         match self {

@@ -15,13 +15,13 @@ use payload::ReadId;
 use payload::ReadString;
 
 // The place after a payload; or too few bytes for it.
-pub enum Passed {
+enum Passed {
     To(usize),
     Short,
 }
 
 // After an id and its payload: on at a depth, out of the value that the walk began with, or too few bytes.
-pub enum Turn {
+enum Turn {
     On(usize, u64),
     Out(usize),
     Short,

@@ -6,7 +6,7 @@ use payload::Text;
 use payload::bits;
 use token::Token;
 
-pub enum Parts {
+pub(crate) enum Parts {
     // An id and a number of so many bytes: of none, where the id stands alone.
     Number(LexemeId, u8, u64),
     // An id, and a text after its length.

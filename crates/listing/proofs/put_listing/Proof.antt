@@ -1,17 +1,19 @@
 -- `listing::put_listing` meets its contract. The invariant: what is left to write, written to the output as it is, gives what the promise says.
 -- Assumes nothing.
 use borrow.Author.Needs.{needs}
-use mathlib.Core.Path.{_≡_, sym, ap, _∙_}
+use mathlib.Core.Path.{_≡_, refl, ap, _∙_}
 use Prim.Native.Nat.{_+_, _-_, _≤_}
 use native.Mathlib.Omega.{arith}
 use lib.ListN.{length}
 use Rattle.form.specs.Listing.{listing}
+use Rattle.payload.proofs.Laws.{gotOf, elseOf}
 use Rattle.text.proofs.Writes.{Left, left-all, left-step, left-last}
 use Rattle.token.specs.Tokens.{valueOf, tokenAnswer}
+use Rattle.token.proofs.Walks.{token-read, token-refused}
 use Rattle.listing.specs.declared.tally.Tally.{Tally}
 use Rattle.listing.specs.Tallies.{Sound}
 use Rattle.listing.proofs.Counting.{sound-none, sound-step}
-use Rattle.listing.proofs.Reading.{rest, rest-all, rest-end, read, rest-token, refused-by, rest-refused}
+use Rattle.listing.proofs.Reading.{rest, rest-all, rest-end, rest-token, rest-refused}
 use Rattle.listing.proofs.put_listing.Statement.{statement}
 use Rattle.listing.proofs.put_listing.Tie as tie
 
@@ -53,8 +55,8 @@ returns c =
     let l = c .before .before .before .before .before .before .before .before .before .loop in
     let s = c .before .before .before .before .before .before .before .before .before .before .before .before .before .args .bytes .now in
     let h = c .before .before .before .before .before .before .before .before .loop-test .taken in
-    let q = refused-by s (l .at) h (c .before .before .before .before .before .before .before .read-token .result) (c .before .before .before .before .before .before .before .read-token .ensures) (c .before .before .before .before .before .enum-told .given .1) (c .before .before .before .refusal .ensures) in
-    left-last (l .inv .3) (c .before .before .put-refusal .ensures) (rest-refused s (l .at) h (l .tally) q)
+    let e = elseOf tokenAnswer (c .before .before .before .before .before .before .before .read-token .ensures) (c .before .before .before .before .before .enum-told .given .1) (c .before .before .before .refusal .ensures) refl in
+    left-last (l .inv .3) (c .before .before .put-refusal .ensures) (rest-refused s (l .at) (l .tally) (token-refused s (l .at) h e))
 
 put-line-requires : tie.Need-put-line-requires Inv-loop μ-loop
 put-line-requires c κs = search needs
@@ -66,22 +68,19 @@ after-requires c κs =
 
 loop-less : tie.Need-loop-less Inv-loop μ-loop
 loop-less c =
-    let l = c .before .before .before .before .before .before .before .before .before .before .loop in
-    let s = c .before .before .before .before .before .before .before .before .before .before .before .before .before .before .args .bytes .now in
-    let h = c .before .before .before .before .before .before .before .before .before .loop-test .taken in
-    let r = read s (l .at) h (sym (c .before .before .before .before .before .before .before .before .read-token .ensures) ∙ ap tokenAnswer (c .before .before .before .before .before .before .r .given .1)) in
-    omega (arith, r .on, r .within)
+    let r = token-read _ _ (gotOf tokenAnswer (c .before .before .before .before .before .before .before .before .read-token .ensures) (c .before .before .before .before .before .before .r .given .1)) in
+    omega (arith, r .on, r .there)
 
 loop-again : tie.Need-loop-again Inv-loop μ-loop
 loop-again c =
     let l = c .before .before .before .before .before .before .before .before .before .before .loop in
     let s = c .before .before .before .before .before .before .before .before .before .before .before .before .before .before .args .bytes .now in
-    let h = c .before .before .before .before .before .before .before .before .before .loop-test .taken in
-    let r = read s (l .at) h (sym (c .before .before .before .before .before .before .before .before .read-token .ensures) ∙ ap tokenAnswer (c .before .before .before .before .before .before .r .given .1)) in
+    let e = gotOf tokenAnswer (c .before .before .before .before .before .before .before .before .read-token .ensures) (c .before .before .before .before .before .before .r .given .1) in
+    let r = token-read s (l .at) e in
     let a = c .after .ensures in
     let v = valueOf s (c .before .before .before .before .before .before .r .given .0 .0) in
     let n : c .after .result .tokens ≡ l .tally .tokens + 1 = ap (λ (x : Tally). x .tokens) (a s) in
-    (r .within, omega (arith, l .inv .1, r .on), rw (a s) (sound-step (l .tally) v (l .inv .2)), left-step _ (l .inv .3) (c .before .before .before .put-line .ensures) (rest-token s (l .at) h (l .tally) r a))
+    (r .there, omega (arith, l .inv .1, r .on), rw (a s) (sound-step (l .tally) v (l .inv .2)), left-step _ (l .inv .3) (c .before .before .before .put-line .ensures) (rest-token s (l .at) (l .tally) e a))
 
 put-end-requires : tie.Need-put-end-requires Inv-loop μ-loop
 put-end-requires c κs = search needs

@@ -4,7 +4,7 @@ use Prim.Native.Nat.{_<_}
 use native.Mathlib.Omega.{arith}
 use mathlib.Core.Path.{refl}
 use lib.ListN.{length}
-use Rattle.payload.proofs.Laws.{elseOf}
+use Rattle.payload.proofs.Laws.{gotOf, elseOf}
 use Rattle.token.specs.Tokens.{tokenAnswer}
 use Rattle.normaliser.proofs.Respelling.{next-refused, next-written, next-counted, next-wide}
 use Rattle.normaliser.proofs.respell.Statement.{statement}
@@ -30,7 +30,7 @@ returns c =
     let a = c .before .before .before .before .before .before .before .args in
     let l : a .at < length (a .bytes .now) = omega arith in
     let e = elseOf tokenAnswer (c .before .before .before .before .read-token .ensures) (c .before .before .enum-told .given .1) (c .before .refusal .ensures) refl in
-    next-refused (c .before .before .before .before .before .before .shared-slice-known .given) l e (c .refused .ensures)
+    next-refused l e (c .refused .ensures)
 
 place-requires : tie.Need-place-requires
 place-requires c κs = search needs
@@ -58,27 +58,21 @@ same-length c = search needs
 
 returns-2 : tie.Need-returns-2
 returns-2 c =
-    let a = c .before .before .before .before .before .before .before .before .before .before .before .before .before .before .args in
-    let l : a .at < length (a .bytes .now) = omega arith in
-    next-written (c .before .before .before .before .before .before .before .before .before .before .before .before .before .shared-slice-known .given) l (c .before .before .before .before .before .before .before .before .before .before .before .read-token .ensures) (c .before .before .before .before .before .before .before .before .before .r .given .1) (c .before .before .before .before .before .before .before .place .ensures) (c .before .before .before .before .before .write .ensures) (c .before .n .given .1)
+    next-written _ (c .before .before .before .before .before .before .before .before .before .before .before .before .before .shared-slice-known .given) _ (gotOf tokenAnswer (c .before .before .before .before .before .before .before .before .before .before .before .read-token .ensures) (c .before .before .before .before .before .before .before .before .before .r .given .1)) (c .before .before .before .before .before .before .before .place .ensures) (c .before .before .before .before .before .write .ensures) (c .before .n .given .1)
 
 same-length-2 : tie.Need-same-length-2
 same-length-2 c = search needs
 
 returns-3 : tie.Need-returns-3
 returns-3 c =
-    let a = c .before .before .before .before .before .before .before .before .before .before .before .before .before .before .args in
-    let l : a .at < length (a .bytes .now) = omega arith in
-    next-counted (c .before .before .before .before .before .before .before .before .before .before .before .before .before .shared-slice-known .given) l (c .before .before .before .before .before .before .before .before .before .before .before .read-token .ensures) (c .before .before .before .before .before .before .before .before .before .r .given .1) (c .before .before .before .before .before .before .before .place .ensures) (c .before .before .before .before .before .write .ensures) (c .before .n2 .given .1)
+    next-counted _ (c .before .before .before .before .before .before .before .before .before .before .before .before .before .shared-slice-known .given) _ (gotOf tokenAnswer (c .before .before .before .before .before .before .before .before .before .before .before .read-token .ensures) (c .before .before .before .before .before .before .before .before .before .r .given .1)) (c .before .before .before .before .before .before .before .place .ensures) (c .before .before .before .before .before .write .ensures) (c .before .n2 .given .1)
 
 same-length-3 : tie.Need-same-length-3
 same-length-3 c = search needs
 
 returns-4 : tie.Need-returns-4
 returns-4 c =
-    let a = c .before .before .before .before .before .before .before .before .before .before .before .before .args in
-    let l : a .at < length (a .bytes .now) = omega arith in
-    next-wide (c .before .before .before .before .before .before .before .before .before .before .before .shared-slice-known .given) l (c .before .before .before .before .before .before .before .before .before .read-token .ensures) (c .before .before .before .before .before .before .before .r .given .1) (c .before .before .before .write .result) (c .before .before .before .write .ensures) (c .match2 .keys3)
+    next-wide _ (c .before .before .before .before .before .before .before .before .before .before .before .shared-slice-known .given) _ (gotOf tokenAnswer (c .before .before .before .before .before .before .before .before .before .read-token .ensures) (c .before .before .before .before .before .before .before .r .given .1)) (c .before .before .before .write .result) (c .before .before .before .write .ensures) (c .match2 .keys3)
 
 pub respell-spec : {M : Type 1} → statement M
 respell-spec =

@@ -8,6 +8,7 @@ use borrow.Author.Needs.{needs}
 use Rattle.form.proofs.Walking.{from}
 use Rattle.payload.proofs.Laws.{gotOf, elseOf}
 use Rattle.token.specs.Tokens.{tokenAnswer}
+use Rattle.token.proofs.Walks.{token-read}
 use Rattle.lexer.specs.Calls.{refusalOf}
 use Rattle.capi.specs.Counting.{counting, countReply}
 use Rattle.capi.proofs.Counts.{at-start, at-end, counted, cut-off}
@@ -49,13 +50,13 @@ add-n c = omega arith
 
 loop-less : tie.Need-loop-less Inv-loop μ-loop
 loop-less c =
-    let k = counted _ _ (c .before .before .before .before .loop-test .taken) (gotOf tokenAnswer (c .before .before .before .read-token .ensures) (c .before .r .given .1)) in
-    omega (arith, k .on, k .there)
+    let r = token-read _ _ (gotOf tokenAnswer (c .before .before .before .read-token .ensures) (c .before .r .given .1)) in
+    omega (arith, r .on, r .there)
 
 loop-again : tie.Need-loop-again Inv-loop μ-loop
 loop-again c =
-    let k = counted _ _ (c .before .before .before .before .loop-test .taken) (gotOf tokenAnswer (c .before .before .before .read-token .ensures) (c .before .r .given .1)) in
-    (k .there, omega (arith, k .on), sym (k .counts _) ∙ c .before .before .before .before .before .loop .inv .2)
+    let r = token-read _ _ (gotOf tokenAnswer (c .before .before .before .read-token .ensures) (c .before .r .given .1)) in
+    (r .there, omega (arith, r .on), sym (counted _ _ r _) ∙ c .before .before .before .before .before .loop .inv .2)
 
 answered-requires : tie.Need-answered-requires Inv-loop μ-loop
 answered-requires c κs = search needs
