@@ -10,6 +10,7 @@ use lib.Seq.{sets, sets-eq}
 use borrow.Author.Tests.{leb-true, le-leb}
 use Rattle.form.specs.Numbers.{pick}
 use Rattle.form.specs.Calls as F
+use Rattle.form.proofs.Never.{never}
 use Rattle.source.specs.declared.ParserSource.{ParserSource}
 use Rattle.source.specs.Window.{Step, gives, Call, andThen, ifGiven, unread, heldIn, window, takenPart, windowLen, windowOf}
 use Rattle.source.proofs.Cases.{by-check, held}
@@ -54,8 +55,8 @@ module _ (answer state : List ℕ) {a : Asked} (ask : a ≡ asked answer state) 
           → pick p (pick q (pick (leb (getD state 5 0) 1) (State (stateOf state)) (Bad BAD_ARGUMENT)) (Bad BAD_ARGUMENT)) (Bad SHORT_ANSWER) ≡ State s
           → 6 ≤ length state
       go true true h e = leb-true _ _ h
-      go true false h e = let z : _≡_ {A = ℕ} 0 1 = cc in absurd (omega arith)
-      go false q h e = let z : _≡_ {A = ℕ} 0 1 = cc in absurd (omega arith)
+      go true false h e = never (cc)
+      go false q h e = never (cc)
 
   module _ {A : Type 0} (reply : F.Call A → Reply) (call : Call A) (buffer : List ℕ) where
     pub not-asked : {k n : ℕ} → a ≡ Bad k → n ≡ askedNumber a → after (returned n answer) state buffer ≡ called reply call answer state buffer

@@ -7,14 +7,13 @@ use lib.ListN.{length}
 use lib.Seq.{sets, sets-eq}
 use borrow.Author.Tests.{le-leb, lt-leb}
 use Rattle.form.specs.Values as F
-use Rattle.lexeme.specs.Kinds.{kindOf}
-use Rattle.capi.specs.Replies.{Reply, returned, into}
-use Rattle.lexeme.specs.Kinds.{kindNumber}
+use Rattle.lexeme.specs.Kinds.{kindOf, kindNumber}
+use Rattle.capi.specs.Replies.{SHORT_ANSWER, Reply, returned, into}
 
 -- ---- the lent list
 
 module _ (l : List ℕ) (r : Reply) where
-  pub too-short : length l < 8 → returned 100 l ≡ into l r
+  pub too-short : length l < 8 → returned SHORT_ANSWER l ≡ into l r
   unfolding into
   too-short h = rw (lt-leb 8 (length l) h)
 

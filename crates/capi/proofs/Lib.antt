@@ -1,6 +1,5 @@
 pub mod Laws
 pub mod Counts
-pub mod Widening
 pub mod Unique
 pub mod Ranges
 pub mod Writes

@@ -15,7 +15,8 @@ use Rattle.form.specs.Numbers.{pick, le, leBytes, Bytes, negated}
 use Rattle.form.specs.Values as F
 use Rattle.form.specs.Table.{Payload, number, text, nothing}
 use Rattle.form.specs.Fast.{fast, slow, front, over, stepNumber, stepText, stepBy}
-use Rattle.form.proofs.LittleEndian.{length-bytes, bytes-le, take-bytes, drop-bytes, bytes-all}
+use Rattle.form.proofs.Never.{never}
+use Rattle.form.proofs.LittleEndian.{length-bytes, number-same, take-bytes, drop-bytes, bytes-all}
 use Rattle.form.specs.Refusals.{Fault}
 use Rattle.form.specs.Readers.{found, refused, mapped, at, placed}
 use Rattle.form.specs.Reading.{num, string}
@@ -57,10 +58,7 @@ hold-more i from s held h l =
 -- a number spelled in as many bytes as it was read from
 as-read : (w : ℕ) (t held : List ℕ) → Bytes t → w ≤ length t → over (leBytes w (le (take w t))) held ≡ take w t ++ drop w held
 unfolding over
-as-read w t held b h =
-    let size : length (take w t) ≡ w = length-take-le w t h in
-    let spelled : leBytes w (le (take w t)) ≡ take w t = ap (λ (k : ℕ). leBytes k (le (take w t))) (sym size) ∙ bytes-le (take w t) (take-bytes w t b) in
-    rw (spelled, size)
+as-read w t held b h = rw (number-same t b w h, length-take-le w t h)
 
 -- and in more bytes: zeros come after
 wider : (n : ℕ) (u : List ℕ) → length u ≤ n → Bytes u → leBytes n (le u) ≡ u ++ drop (length u) (replicate n 0)
@@ -158,7 +156,7 @@ module _ (s : List ℕ) (long : 16 ≤ length s) where
   id-got e = let d = sym e ∙ id-there in cc
 
   pub id-never : {A : Type 0} {why : Fault} → at (num 2) s 0 ≡ refused why → A
-  id-never e = let d = sym e ∙ id-there in let z : _≡_ {A = ℕ} 0 1 = cc in absurd (omega arith)
+  id-never e = let d = sym e ∙ id-there in never (cc)
 
   module _ (w : ℕ) (small : w ≤ 7) (negative : Bool) where
     compact-there : compact w negative s 2 ≡ found (signedBy negative (le (take w (drop 2 s)))) (2 + w)
@@ -173,7 +171,7 @@ module _ (s : List ℕ) (long : 16 ≤ length s) where
         rw (a, b)
 
     pub compact-never : {A : Type 0} {why : Fault} → compact w negative s 2 ≡ refused why → A
-    compact-never e = let d = sym e ∙ compact-there in let z : _≡_ {A = ℕ} 0 1 = cc in absurd (omega arith)
+    compact-never e = let d = sym e ∙ compact-there in never (cc)
 
   abbrev size : ℕ
   size = le (take 2 (drop 2 s))
@@ -192,7 +190,7 @@ module _ (s : List ℕ) (long : 16 ≤ length s) where
           (cc, leb-true (4 + size) (length s) t)
       go false t =
           let d = sym (ap (placed textOf) (string-short s 2 sized (rw length-drop (omega (arith, leb-false (4 + size) (length s) t))))) ∙ e in
-          let z : _≡_ {A = ℕ} 0 1 = cc in absurd (omega arith)
+          never (cc)
 
   pub text-within : {x : Text} {n : ℕ} → placed textOf (at string s 2) ≡ found x n → 4 + x .len ≤ length s
   text-within e = let d = text-there e in rw (d .0) (d .1)
@@ -208,5 +206,5 @@ module _ (s : List ℕ) (long : 16 ≤ length s) where
         go : (b : Bool) → leb (4 + size) (length s) ≡ b → slowly held ≡ textedBy k size s held
         go true t =
             let d = sym (string-there (λ a m. record { start = a; len = m }) s 2 sized (rw length-drop (omega (arith, leb-true (4 + size) (length s) t)))) ∙ e in
-            let z : _≡_ {A = ℕ} 0 1 = cc in absurd (omega arith)
+            cc
         go false t = rw t

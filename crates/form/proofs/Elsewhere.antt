@@ -8,6 +8,7 @@ use lib.Dec.{leb, eqb}
 use borrow.Author.Tests.{eqb-true, eqb-false, leb-true}
 use types.Run.{OneOf}
 use Rattle.form.specs.Table.{Entry, _is_, _to_is_, entries, among, find, isSome, reserved}
+use Rattle.form.proofs.Never.{never}
 use Rattle.form.proofs.Lookups.{missed}
 
 -- ---- a test that each of the table's ids passes
@@ -28,7 +29,7 @@ eachId test (lo to hi is p ∷ es) = through test (hi - lo + 1) lo && eachId tes
 
 pub both : (a b : Bool) → a && b ≡ true → (a ≡ true) × (b ≡ true)
 both true b h = (refl, h)
-both false b h = let z : _≡_ {A = ℕ} 0 1 = cc in absurd (omega arith)
+both false b h = never (cc)
 
 either : {A : Type 0} (b : Bool) → (b ≡ true → A) → (b ≡ false → A) → A
 either true f g = f refl
@@ -36,7 +37,7 @@ either false f g = g refl
 
 module _ (test : ℕ → Bool) (x : ℕ) where
   in-every : (ks : List ℕ) → every test ks ≡ true → among x ks ≡ true → test x ≡ true
-  in-every [] e h = let z : _≡_ {A = ℕ} 0 1 = cc in absurd (omega arith)
+  in-every [] e h = cc
   in-every (k ∷ ks) e h =
       let t = both (test k) (every test ks) e in
       either (eqb x k) (λ q. ap test (eqb-true x k q) ∙ t .0) (λ q. in-every ks (t .1) (rw q at h))
@@ -50,7 +51,7 @@ module _ (test : ℕ → Bool) (x : ℕ) where
 
   in-entries : (es : List Entry) → eachId test es ≡ true → isSome (find es x) ≡ true → test x ≡ true
   unfolding find
-  in-entries [] e h = let z : _≡_ {A = ℕ} 0 1 = cc in absurd (omega arith)
+  in-entries [] e h = cc
   in-entries (ks is p ∷ es) e h =
       let t = both (every test ks) (eachId test es) e in
       either (among x ks) (in-every ks (t .0)) (λ q. in-entries es (t .1) (rw q at h))

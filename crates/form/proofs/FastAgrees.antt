@@ -17,6 +17,7 @@ use Rattle.form.specs.Table.{Payload, number, text, colour, table, entri
 use Rattle.form.specs.Readers.{found, andThen, mapped, at}
 use Rattle.form.specs.Reading.{num, string, payload, token}
 use Rattle.form.specs.Fast.{fast, front, over, stepNumber, stepText, stepBy, fastStep}
+use Rattle.form.proofs.Never.{never}
 use Rattle.form.proofs.LittleEndian.{length-bytes, le-bytes, le-take-lt, drop-bytes}
 use Rattle.form.proofs.Lookups.{InEach, by-table}
 use Rattle.form.proofs.Sound.{_&_, widen}
@@ -136,13 +137,13 @@ module _ (s held : List ℕ) (bytes : Bytes s) (long : 16 ≤ length s) where
           kinds = t .0 u ∙ cc;
           gives = t .1 u _ (front-le 2 (size s) held (small 2) ∙ sym long′);
         })
-    text-agrees false l q = let z : _≡_ {A = ℕ} 0 1 = let q′ = rw l at q in cc in absurd (omega arith)
+    text-agrees false l q = let q′ = rw l at q in never (cc)
 
   by-payload : (p : Payload) → Told p → after (le (take 2 s)) ≡ p → (k n : ℕ) → stepBy p s held .step ≡ fast k n → Agrees s k n (stepBy p s held .held)
   unfolding stepBy
   by-payload (number w f) t e k n q = number-agrees w f t e k n q
   by-payload (text f) t e k n q = text-agrees f t e k n (leb (4 + size s) (length s)) refl q
-  by-payload colour t e k n q = let z : _≡_ {A = ℕ} 0 1 = cc in absurd (omega arith)
+  by-payload colour t e k n q = never (cc)
 
 -- where the fast step answers, reading does, and says the same
 pub fast-agrees : (s held : List ℕ) → Bytes s → {k n : ℕ} → fastStep s held .step ≡ fast k n → Agrees s k n (fastStep s held .held)
@@ -152,4 +153,4 @@ fast-agrees s held b {k} {n} q = go (leb 16 (length s)) refl q
     go : (t : Bool) → leb 16 (length s) ≡ t → fastStep s held .step ≡ fast k n → Agrees s k n (fastStep s held .held)
     go true l q =
         rw l (by-payload s held b (leb-true 16 (length s) l) (after (le (take 2 s))) (after-told (le (take 2 s)) (le-take-lt 2 s b)) refl k n (rw l at q))
-    go false l q = let z : _≡_ {A = ℕ} 0 1 = let q′ = rw l at q in cc in absurd (omega arith)
+    go false l q = let q′ = rw l at q in never (cc)

@@ -10,6 +10,7 @@ use borrow.Author.Tests.{ltb-true, ltb-false, lt-leb}
 use Rattle.form.specs.Refusals.{Fault, tooShort}
 use Rattle.form.specs.Readers.{Answer, found, refused, Reader, ByPlace, further, andThen, mapped, placed, _followed-by_, _giving_, at}
 use Rattle.form.specs.Reading.{next, num, string, rgb, token}
+use Rattle.form.proofs.Never.{never}
 
 -- whatever is found begins inside the bytes
 abbrev pub Inside : {A : Type 0} → ByPlace A → Type 0
@@ -28,7 +29,7 @@ inside f h s p a n e = go (ltb p (length s)) refl
     go false t =
         let d : drop p s ≡ [] = drop-of-length-le s (ltb-false p (length s) t) in
         let q : refused tooShort ≡ found a n = rw (d, h) at e in
-        let z : _≡_ {A = ℕ} 0 1 = cc in absurd (omega arith)
+        never (cc)
 
 -- what hands faults on finds no more
 inside-through : {A B : Type 0} (f : ByPlace A) (t : Answer A → Answer B) → ((why : Fault) → t (refused why) ≡ refused why) → Inside f → Inside (λ s p. t (f s p))
@@ -36,7 +37,7 @@ inside-through f t k h s p b n e = go (f s p) refl e
   where
     go : (x : Answer _) → f s p ≡ x → t x ≡ found b n → p < length s
     go (found a m) q e = h s p a m q
-    go (refused why) q e = let z : _≡_ {A = ℕ} 0 1 = cc (k why) in absurd (omega arith)
+    go (refused why) q e = never (cc (k why))
 
 pub inside-mapped : {A B : Type 0} (f : ByPlace A) (g : A → B) → Inside f → Inside (λ s p. mapped g (f s p))
 unfolding mapped

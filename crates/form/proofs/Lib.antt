@@ -1,3 +1,4 @@
+pub mod Never
 pub mod LittleEndian
 pub mod Found
 pub mod Places

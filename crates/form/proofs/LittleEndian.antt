@@ -2,9 +2,10 @@
 use Prim.Native.Nat.{ℕ, zero, suc, _+_, _*_, _%_, _/_, _^_, _≤_, _<_, zero-le}
 use native.Mathlib.Nat.{le-of-suc-le-suc, le-antisymm, zero-lt-suc, div-lt-iff-lt-mul, mod-add-div, pow-suc, one-le-pow, mod-lt, pow-le-pow-right}
 use native.Mathlib.Omega.{arith}
-use mathlib.Core.Path.{_≡_, refl, ap}
+use mathlib.Core.Path.{_≡_, refl, sym, ap, _∙_}
 use mathlib.Core.List.{List, [], _∷_, _++_}
 use lib.ListN.{length, take, drop, getD}
+use lib.Seq.{length-take-le}
 use lib.Dec.{lit<}
 use mir.Syntax.{w8}
 use mir.Val.{Fits}
@@ -33,6 +34,10 @@ pub take-bytes : (n : ℕ) (s : List ℕ) → Bytes s → Bytes (take n s)
 take-bytes zero s h = tt
 take-bytes (suc n) [] h = tt
 take-bytes (suc n) (b ∷ s) h = (h .0, take-bytes n s (h .1))
+
+-- the bytes of a number are those that spell it
+pub number-same : (s : List ℕ) → Bytes s → (w : ℕ) → w ≤ length s → leBytes w (le (take w s)) ≡ take w s
+number-same s b w h = ap (λ (k : ℕ). leBytes k (le (take w s))) (sym (length-take-le w s h)) ∙ bytes-le (take w s) (take-bytes w s b)
 
 pub drop-bytes : (n : ℕ) (s : List ℕ) → Bytes s → Bytes (drop n s)
 drop-bytes zero s h = h

@@ -15,6 +15,7 @@ use Rattle.form.specs.Numbers.{pick, negated}
 use Rattle.form.specs.Values.{F64, Lookup, Id, Unquoted, kind}
 use Rattle.form.specs.Table.{Payload, number, text, nothing, Entry, _is_, _to_is_, table, entries, among, find, orPlain, after, isSome, reserved}
 use Rattle.form.specs.Ids.{sample, alike, findId, idOf, OPEN, CLOSE, CHANNEL}
+use Rattle.form.proofs.Never.{never}
 
 -- ---- what holds of each entry
 
@@ -65,7 +66,7 @@ plain-after i e = go (find entries i) e
   where
     go : (o : Option Payload) → isSome o ≡ false → orPlain i o ≡ nothing (Id i)
     go none e = refl
-    go (some p) e = let z : _≡_ {A = ℕ} 0 1 = cc in absurd (omega arith)
+    go (some p) e = cc
 
 -- ---- the ids of a colour
 
@@ -131,7 +132,7 @@ step : (x lo : ℕ) → find entries x ≡ find (ranges entries) x → isSome (f
 step x lo e k k′ h =
     let ne : x ≡ lo → ⊥ =
     λ q. let z : _≡_ {A = Bool} true false = sym k ∙ sym (ap (λ (y : ℕ). isSome (find entries y)) q) ∙ ap isSome e ∙ ap (λ (y : ℕ). isSome (find (ranges entries) y)) q ∙ k′ in
-    let o : _≡_ {A = ℕ} 0 1 = cc in omega arith
+    never (cc)
     in
     omega (arith, ne)
 
@@ -163,9 +164,9 @@ unfolding after find entries table orPlain
 compact-in x lo hi =
     among-them (λ i. after i ≡ number (i - 0x0d47) F64) 8 0x0d47 (refl, (refl, (refl, (refl, (refl, (refl, (refl, (refl, tt)))))))) x lo hi
 
-pub negated-at : (x : ℕ) → 0x0d4f ≤ x → x < 0x0d56 → after x ≡ number (x - 0x0d4e) (λ n. F64 (negated n))
+pub negated-in : (x : ℕ) → 0x0d4f ≤ x → x < 0x0d56 → after x ≡ number (x - 0x0d4e) (λ n. F64 (negated n))
 unfolding after find entries table orPlain
-negated-at x lo hi =
+negated-in x lo hi =
     among-them (λ i. after i ≡ number (i - 0x0d4e) (λ n. F64 (negated n))) 7 0x0d4f (refl, (refl, (refl, (refl, (refl, (refl, (refl, tt))))))) x lo hi
 
 module _ (x : ℕ) (m : Missed (Unit {0}) entries x) where

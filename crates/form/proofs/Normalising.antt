@@ -1,6 +1,5 @@
 -- When a save is normalised: exactly when it is clean and there is room. Assumes nothing.
 use Prim.Native.Nat.{ℕ, _≤_}
-use native.Mathlib.Omega.{arith}
 use mathlib.Core.Path.{_≡_, refl, _∙_}
 use mathlib.Core.Bool.{Bool, true, false, not, _&&_}
 use mathlib.Core.Option.{Option, none, some}
@@ -13,6 +12,7 @@ use Rattle.form.specs.Refusals.{Refusal, NotEncodable, NoRoom, TooLong}
 use Rattle.form.specs.Spelling.{wide}
 use Rattle.form.specs.Saves.{Walk, done, cut, then, walk, values, whole, tokens, normal, allNarrow, LIMIT, Clean}
 use Rattle.form.specs.Writing.{written, unwritten, fitted, firstRefusal, unless, normalise}
+use Rattle.form.proofs.Never.{never}
 
 -- a save has no refusal exactly when it reads to its end and holds no wide lookup
 unrefused : (w : Walk) → T (whole w) → T (allNarrow (values w)) → firstRefusal w ≡ none
@@ -28,12 +28,12 @@ unrefused (then p k v w) h n = go (wide v) n (unrefused w h)
 refusal-free : (w : Walk) → firstRefusal w ≡ none → T (whole w) × T (allNarrow (values w))
 unfolding firstRefusal whole values allNarrow
 refusal-free done e = (tt, tt)
-refusal-free (cut r) e = let z : _≡_ {A = ℕ} 0 1 = cc in absurd (omega arith)
+refusal-free (cut r) e = never (cc)
 refusal-free (then p k v w) e = go (wide v) e (refusal-free w)
   where
     go : (b : Bool) → pick b (some (NotEncodable p)) (firstRefusal w) ≡ none → (firstRefusal w ≡ none → T (whole w) × T (allNarrow (values w)))
         → T (whole w) × T (not b && allNarrow (values w))
-    go true q k = let z : _≡_ {A = ℕ} 0 1 = cc in absurd (omega arith)
+    go true q k = never (cc)
     go false q k = k q
 
 -- a clean save is written in normal form, where there is room
@@ -57,14 +57,14 @@ normalised {room} {s} {bs} b e = limited (leb (length s) LIMIT) refl e
   where
     roomy : Clean s → (t : Bool) → leb (length (normal s)) room ≡ t → pick t (written (normal s)) (unwritten (NoRoom (length (normal s)))) ≡ written bs → Normalised room s bs
     roomy c true q d = record { clean = c; is = cc; fits = leb-true _ _ q }
-    roomy c false q d = let z : _≡_ {A = ℕ} 0 1 = cc in absurd (omega arith)
+    roomy c false q d = never (cc)
 
     read : length s ≤ LIMIT → (o : Option Refusal) → firstRefusal (walk s) ≡ o → unless o (fitted room (normal s)) ≡ written bs → Normalised room s bs
     read l none q d =
         let k = refusal-free (walk s) q in
         roomy (record { limit = l; bytes = b; ends = k .0; narrow = k .1 }) (leb (length (normal s)) room) refl d
-    read l (some r) q d = let z : _≡_ {A = ℕ} 0 1 = cc in absurd (omega arith)
+    read l (some r) q d = never (cc)
 
     limited : (t : Bool) → leb (length s) LIMIT ≡ t → pick t (unless (firstRefusal (walk s)) (fitted room (normal s))) (unwritten (TooLong (length s))) ≡ written bs → Normalised room s bs
     limited true q d = read (leb-true _ _ q) (firstRefusal (walk s)) refl d
-    limited false q d = let z : _≡_ {A = ℕ} 0 1 = cc in absurd (omega arith)
+    limited false q d = never (cc)

@@ -19,6 +19,7 @@ use Rattle.form.specs.Table.{Payload, after}
 use Rattle.form.specs.Ids.{CLOSE, CHANNEL}
 use Rattle.form.specs.Readers.{Answer, found, refused, Reader, further, andThen, mapped, _followed-by_, _giving_, give, refuse, at, placed}
 use Rattle.form.specs.Reading.{next, num, string, channel, withAlpha, ending, headed, judged, rgb, payload, token}
+use Rattle.form.proofs.Never.{never}
 use Rattle.form.proofs.LittleEndian.{le-take-lt, drop-bytes, bytes-all}
 
 further-further : {A : Type 0} (j k : ℕ) (a : Answer A) → further j (further k a) ≡ further (j + k) a
@@ -69,15 +70,6 @@ unfolding andThen mapped
 mapped-then f (found a n) = refl
 mapped-then f (refused why) = refl
 
--- a reading never ends before its place
-pub at-on : {A : Type 0} (f : Reader A) (s : List ℕ) (p : ℕ) {a : A} {n : ℕ} → at f s p ≡ found a n → p ≤ n
-unfolding at further
-at-on f s p {a} {n} e = go (f (drop p s)) e
-  where
-    go : (x : Answer _) → further p x ≡ found a n → p ≤ n
-    go (found b m) q = let k : p + m ≡ n = cc in omega arith
-    go (refused why) q = let z : _≡_ {A = ℕ} 0 1 = cc in absurd (omega arith)
-
 -- the next n bytes, in the two cases
 module _ (n : ℕ) (s : List ℕ) (p : ℕ) where
   pub at-next : n ≤ length (drop p s) → at (next n) s p ≡ found (take n (drop p s)) (p + n)
@@ -105,7 +97,7 @@ module _ (w : ℕ) (s : List ℕ) (p : ℕ) where
 
   by-test : (b : Bool) (x n : ℕ) → leb w (length (drop p s)) ≡ b → pick b (found (le (take w (drop p s))) (p + w)) (refused tooShort) ≡ found x n → Took x n
   by-test true x n t e = record { value = cc; next = cc; there = leb-true w (length (drop p s)) t }
-  by-test false x n t e = let z : _≡_ {A = ℕ} 0 1 = cc in absurd (omega arith)
+  by-test false x n t e = never (cc)
 
   at-num : at (num w) s p ≡ pick (leb w (length (drop p s))) (found (le (take w (drop p s))) (p + w)) (refused tooShort)
   unfolding at num next _giving_ further mapped

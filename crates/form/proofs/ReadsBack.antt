@@ -67,7 +67,7 @@ channel-back n h s =
     (num-then 2 CHANNEL (λ i. num 4 giving (λ n. record { tag = i; value = n })) channel-lt (leBytes 4 n ++ s)
     ∙ ap (λ (x : Answer ℕ). further 2 (mapped (λ n. channelOf n) x)) (num-back 4 n h s))
 
-channel-length : (n : ℕ) → length (spelledChannel n) ≡ 6
+pub channel-length : (n : ℕ) → length (spelledChannel n) ≡ 6
 unfolding spelledChannel leBytes
 channel-length n = refl
 

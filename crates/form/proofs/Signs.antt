@@ -1,4 +1,5 @@
--- Signed numbers of any width, by the test of their sign: of a negative x, x + 1 and its negation fit the type. Assumes nothing.
+-- Signed numbers of any width, by the test of their sign: of a negative x, x + 1 and its negation fit the type. And as numbers of 64 bits.
+-- Assumes nothing.
 use mathlib.Core.Path.{_≡_, refl, sym, ap, _∙_}
 use mathlib.Core.Bool.{Bool, true, false}
 use Prim.Native.Nat.{ℕ, zero, suc, _-_, _^_, _≤_, _<_}
@@ -6,10 +7,13 @@ use native.Mathlib.Nat.{zero-add}
 use native.Mathlib.Omega.{arith}
 use lib.IntN.{ℤ, pos, negsuc, negℤ, _+ℤ_, _-ℤ_}
 use lib.Signed.{ltZ, mag}
+use lib.Dec.{T, leb}
 use borrow.Author.Tests.{lt-ltb, ltb-true}
-use mir.Syntax.{Width}
+use mir.Syntax.{Width, w64}
 use mir.Val.{SFits, ofZ, toZ, hbits}
 use mir.ValLaws.{toZ-ofZ}
+use mir.Facts.{sfits-widen}
+use Rattle.form.proofs.Never.{never}
 
 plus-one : (n : ℕ) → negsuc n +ℤ pos 1 ≡ negℤ (pos n)
 plus-one zero = refl
@@ -68,4 +72,12 @@ module _ (w : Width) (x : ℤ) (s : SFits w x) (h : ltZ (toZ w (ofZ w x)) (pos 0
 
 pub positive : (w : Width) (x : ℤ) → SFits w x → ltZ (toZ w (ofZ w x)) (pos 0) ≡ false → (n : ℕ) × (x ≡ pos n) × (toZ w (ofZ w x) ≡ pos n)
 positive w (pos m) s h = (m, refl, toZ-ofZ w (pos m) s)
-positive w (negsuc m) s h = let z : _≡_ {A = Bool} true false = (ap (λ (y : ℤ). ltZ y (pos 0)) (sym (toZ-ofZ w (negsuc m) s)) ∙ h) in absurd (let q : _≡_ {A = ℕ} 0 1 = cc in omega arith)
+positive w (negsuc m) s h = let z : _≡_ {A = Bool} true false = (ap (λ (y : ℤ). ltZ y (pos 0)) (sym (toZ-ofZ w (negsuc m) s)) ∙ h) in never (cc)
+
+-- a cast to `i64` reads a number from its bits at the narrow width and writes it at 64: it is the same number
+module _ {w : Width} {x : ℤ} (narrower : T (leb (hbits w) (hbits w64))) (s : SFits w x) where
+  pub widens : SFits w64 (toZ w (ofZ w x))
+  widens = rw (toZ-ofZ w x s) (sfits-widen narrower s)
+
+  pub widened : toZ w64 (ofZ w64 (toZ w (ofZ w x))) ≡ x
+  widened = rw (toZ-ofZ w x s) (toZ-ofZ w64 x (sfits-widen narrower s))

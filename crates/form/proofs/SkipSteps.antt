@@ -13,7 +13,8 @@ use Rattle.form.specs.Refusals.{Fault, tooShort}
 use Rattle.form.specs.Readers.{Answer, found, refused, further, mapped, at}
 use Rattle.form.specs.Reading.{next, num, string, payload}
 use Rattle.form.specs.Values.{Value, Id}
-use Rattle.form.specs.Skipping.{Skip, past, stopped, stepped, passing, orStop, closed, turned, skipF, skipping}
+use Rattle.form.specs.Skipping.{Skip, stopped, stepped, passing, orStop, closed, turned, skipF, skipping}
+use Rattle.form.proofs.Never.{never}
 use Rattle.form.proofs.Lookups.{open-is, close-is}
 use Rattle.form.proofs.Places.{took, at-giving, num-short, num-there}
 
@@ -30,13 +31,14 @@ unfolding orStop
 stop-same p (found x n) f g h = h x n refl
 stop-same p (refused why) f g h = refl
 
-passing-on : (i : ℕ) (s : List ℕ) (p : ℕ) {x : Unit {0}} {m : ℕ} → passing i s p ≡ found x m → p ≤ m
+-- what is passed never ends before its place
+pub passing-on : (i : ℕ) (s : List ℕ) (p : ℕ) {x : Unit {0}} {m : ℕ} → passing i s p ≡ found x m → p ≤ m
 unfolding passing at further mapped
 passing-on i s p {x} {m} e = go (payload (stepped i (after i)) (drop p s)) e
   where
     go : (y : Answer Value) → mapped (λ _. tt {0}) (further p y) ≡ found x m → p ≤ m
     go (found v k) q = let z : p + k ≡ m = cc in omega arith
-    go (refused why) q = let z : _≡_ {A = ℕ} 0 1 = cc in absurd (omega arith)
+    go (refused why) q = never (cc)
 
 past-end : (k d : ℕ) (s : List ℕ) (p : ℕ) → length s < p → skipF (suc k) d s p ≡ stopped tooShort p
 unfolding skipF orStop

@@ -20,7 +20,8 @@ use Rattle.form.specs.Refusals.{Fault}
 use Rattle.form.specs.Readers.{Reader, found, further, andThen, mapped, _followed-by_, _giving_, give, refuse}
 use Rattle.form.specs.Reading.{next, num, string, Channel, channel, withAlpha, ending, headed, judged, rgb, payload, token}
 use Rattle.form.specs.Spelling.{tag, spelledChannel, spelledAlpha, bit, body, spell, writable, wide}
-use Rattle.form.proofs.LittleEndian.{bytes-le, take-bytes, drop-bytes}
+use Rattle.form.proofs.Never.{never}
+use Rattle.form.proofs.LittleEndian.{number-same, drop-bytes}
 use Rattle.form.proofs.Lookups.{plain-after}
 use Rattle.form.proofs.Found.{All, all-mapped, all-then, all-weaken, Next, next-found}
 use Rattle.form.proofs.Elsewhere.{both}
@@ -59,10 +60,6 @@ pub record Stands (s : List ℕ) (n : ℕ) : Type 0 where
   pub read : token s ≡ found value n
   pub same : spell value ≡ take n s
   pub narrow : wide value ≡ false
-
--- the bytes of a number are those that spell it
-number-same : (s : List ℕ) → Bytes s → (w : ℕ) → w ≤ length s → leBytes w (le (take w s)) ≡ take w s
-number-same s b w h = ap (λ (k : ℕ). leBytes k (le (take w s))) (sym (length-take-le w s h)) ∙ bytes-le (take w s) (take-bytes w s b)
 
 -- ---- readers of what is spelled by the bytes that it has
 
@@ -317,9 +314,6 @@ colours-kept = record { is = refl; keeps = refl } & tt
 
 -- ---- ids that stand alone and are spelled so: the test, which plain ids pass
 
-never : {A : Type 0} → _≡_ {A = Bool} false true → A
-never e = let z : _≡_ {A = ℕ} 0 1 = cc in absurd (omega arith)
-
 abbrev isNil : List ℕ → Bool
 isNil [] = true
 isNil (b ∷ bs) = false
@@ -338,10 +332,10 @@ plain-alone i e = rw (plain-after i e, eq-eqb i i refl)
 
 nil-is : (l : List ℕ) → isNil l ≡ true → l ≡ []
 nil-is [] e = refl
-nil-is (b ∷ bs) e = never e
+nil-is (b ∷ bs) e = cc
 
 not-is : (b : Bool) → not b ≡ true → b ≡ false
-not-is true e = never e
+not-is true e = cc
 not-is false e = refl
 
 pub alone-kept : (i : ℕ) → alone i ≡ true → Kept 0 i
@@ -360,5 +354,5 @@ alone-kept i e = go (after i) refl e
               let z : n ≡ 0 = omega arith in
               rw z ((λ k. leBytes 2 (eqb-true (tag (f 0)) i (b .0) k) ++ nil-is (body (f 0)) (c .0) k), not-is (wide (f 0)) (c .1));
         }
-    go (text f) q e = never e
-    go colour q e = never e
+    go (text f) q e = never (cc)
+    go colour q e = never (cc)

@@ -1,5 +1,11 @@
--- Any two results that a promise allows are equal, wherever an answer can be read back from what it stands for. Assumes nothing.
+-- Any two results that a promise allows are equal: where it is a plain equation, and where an answer can be read back from what it stands for.
+-- Assumes nothing.
 use mathlib.Core.Path.{_≡_, sym, ap, _∙_}
 
+-- promises that are plain equations: a position, a kind, the contents of a part
+pub plain-one : {A : Type 0} {a : A} (r r′ : A) → r ≡ a → r′ ≡ a → r ≡ r′
+plain-one r r′ p q = p ∙ sym q
+
+-- promises of what an answer stands for
 pub same : {R A : Type 0} (answer : R → A) (back : A → R) → ((r : R) → back (answer r) ≡ r) → {a : A} (r r′ : R) → answer r ≡ a → answer r′ ≡ a → r ≡ r′
 same answer back h r r′ p q = sym (h r) ∙ ap back (p ∙ sym q) ∙ h r′

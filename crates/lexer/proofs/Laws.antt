@@ -17,6 +17,7 @@ use Rattle.form.specs.Readers.{Answer, found, refused, ByPlace, at, placed}
 use Rattle.form.specs.Reading.{token}
 use Rattle.form.specs.Skipping.{Skip, stopped}
 use Rattle.form.specs.Calls.{Cursor, movedTo, positionOf, Call, gives, refuses, within, ended, reads, optional, nexts, ifFound, peeks, landed, skips}
+use Rattle.form.proofs.Never.{never}
 use Rattle.form.proofs.Places.{at-next, at-short}
 use Rattle.form.proofs.Inside.{Inside, inside-placed, token-inside}
 use Rattle.payload.specs.Answers.{faultOf}
@@ -25,9 +26,6 @@ use Rattle.lexer.specs.Calls.{refusalOf, bytesAt}
 use Rattle.lexer.specs.declared.answers.LexerError.{LexerError}
 use Rattle.lexer.specs.declared.answers.Refusal.{Refusal}
 use Rattle.lexer.specs.declared.answers.Refusal.the-variants.{Lexed, BadPlace}
-
-clash : {B : Type 0} → _≡_ {A = ℕ} 0 1 → B
-clash z = absurd (omega arith)
 
 -- what a `match` on an answer leaves
 pub told : {E B : Type 0} (call : E → B) {r t : E} {b : B} → call r ≡ b → r ≡ t → call t ≡ b
@@ -46,14 +44,14 @@ module _ (s : List ℕ) (c : Cursor) where
     where
       go : (b : Bool) → leb (c .at) (length s) ≡ b → _≡_ {A = Call (Unit {0})} (gives tt c) (pick b (gives tt c) (refuses (F.BadPlace (c .at)) c)) → c .at ≤ length s
       go true t q = leb-true (c .at) (length s) t
-      go false t q = clash (cc)
+      go false t q = never (cc)
 
   pub outside : {r : F.Refusal} → _≡_ {A = Call (Unit {0})} (refuses r c) (within s c (gives tt c)) → {A : Type 0} (x : Call A) → refuses r c ≡ within s c x
   unfolding within
   outside {r} q x = go (leb (c .at) (length s)) q
     where
       go : (b : Bool) → _≡_ {A = Call (Unit {0})} (refuses r c) (pick b (gives tt c) (refuses (F.BadPlace (c .at)) c)) → refuses r c ≡ pick b x (refuses (F.BadPlace (c .at)) c)
-      go true q = clash (cc)
+      go true q = cc
       go false q = cc
 
 -- ---- reads
@@ -61,8 +59,8 @@ module _ (s : List ℕ) (c : Cursor) where
 -- a fault is no bad place
 no-place : (p n : ℕ) (e : Fault) → F.refusalAt p e ≡ F.BadPlace n → ⊥
 unfolding F.refusalAt
-no-place p n tooShort q = clash (cc)
-no-place p n badColour q = clash (cc)
+no-place p n tooShort q = never (cc)
+no-place p n badColour q = never (cc)
 
 -- a token begins inside the bytes
 pub token-begins : Inside tokenAt
@@ -104,7 +102,7 @@ module _ {A : Type 0} (f : ByPlace A) (s : List ℕ) (c : Cursor) where
 
   began : Inside f → {x : A} {d : Cursor} → gives x d ≡ reads f s c → c .at < length s
   began i {x} {d} =
-      ends (λ r _. gives x d ≡ r → c .at < length s) (λ a n e q. i s (c .at) a n e) (λ e q. clash (cc)) (λ q. clash (cc))
+      ends (λ r _. gives x d ≡ r → c .at < length s) (λ a n e q. i s (c .at) a n e) (λ e q. never (cc)) (λ q. never (cc))
 
   pub next-got : Inside f → {x : A} {d : Cursor} → gives x d ≡ reads f s c → gives (some x) d ≡ nexts f s c
   unfolding nexts optional
@@ -122,19 +120,19 @@ module _ {A : Type 0} (f : ByPlace A) (s : List ℕ) (c : Cursor) where
 
   pub peek-got : {x : A} {d : Cursor} → gives x d ≡ reads f s c → gives (some x) c ≡ peeks f s c
   peek-got {x} {d} =
-      ends (λ r p. gives x d ≡ r → gives (some x) c ≡ p) (λ a n e q. cc) (λ e q. clash (cc)) (λ q. clash (cc))
+      ends (λ r p. gives x d ≡ r → gives (some x) c ≡ p) (λ a n e q. cc) (λ e q. cc) (λ q. cc)
 
   pub peek-none : {r : Refusal} {e : LexerError} → refuses (refusalOf r) c ≡ reads f s c → r ≡ Lexed e → gives none c ≡ peeks f s c
   unfolding refusalOf
   peek-none {r} {e} q h =
-      ends (λ y p. refuses (refusalOf (Lexed e)) c ≡ y → gives none c ≡ p) (λ a n _ q. clash (cc)) (λ w q. refl)
+      ends (λ y p. refuses (refusalOf (Lexed e)) c ≡ y → gives none c ≡ p) (λ a n _ q. cc) (λ w q. refl)
       (λ q. absurd (no-place (e .position) (c .at) (faultOf (e .kind)) (cc))) (told (λ r. refuses (refusalOf r) c) q h)
 
   pub peek-bad : {r : Refusal} {p : ℕ} → refuses (refusalOf r) c ≡ reads f s c → r ≡ BadPlace p → refuses (refusalOf r) c ≡ peeks f s c
   unfolding refusalOf
   peek-bad {r} {p} q h =
       rw h
-      (ends (λ y z. refuses (F.BadPlace p) c ≡ y → refuses (F.BadPlace p) c ≡ z) (λ a n _ q. clash (cc))
+      (ends (λ y z. refuses (F.BadPlace p) c ≡ y → refuses (F.BadPlace p) c ≡ z) (λ a n _ q. cc)
       (λ w q. absurd (no-place (c .at) p w (cc))) (λ q. cc) (told (λ r. refuses (refusalOf r) c) q h))
 
 -- ---- so many bytes

@@ -1,23 +1,19 @@
 -- Any two results that a promise allows are equal: each answer can be read back from what it stands for. Each theorem is for every call that
--- gives the answer of its name. Assumes nothing.
+-- gives the answer of its name; the other calls' promises are plain equations. Assumes nothing.
 use Prim.Native.Nat.{ℕ}
-use native.Mathlib.Omega.{arith}
 use mathlib.Core.Path.{_≡_, refl, sym, ap, _∙_}
 use mathlib.Core.Bool.{Bool}
 use mathlib.Core.Option.{Option, none, some}
 use lib.IntN.{ℤ}
 use Rattle.form.specs.Refusals as F
 use Rattle.form.specs.Values.{Value}
-use Rattle.form.specs.Readers.{found}
 use Rattle.form.specs.Calls.{Cursor, Call, gives, refuses}
 use Rattle.form.proofs.Unique.{same}
 use Rattle.payload.specs.Answers.{colourOf}
 use Rattle.payload.specs.declared.answers.LexError.{LexError}
 use Rattle.payload.specs.declared.answers.LexError.the-variants.{Eof, InvalidRgb}
 use Rattle.payload.specs.declared.answers.Text.{Text}
-use Rattle.payload.specs.declared.answers.Rgb.{Rgb}
-use Rattle.payload.specs.declared.answers.ReadRgb.the-variants as ReadRgb
-use Rattle.payload.proofs.Unique.{rgb-one as leaf-rgb-one}
+use Rattle.payload.proofs.Unique.{colour-one}
 use Rattle.token.specs.declared.Token.{Token}
 use Rattle.lexer.specs.Calls.{cursorOf, refusalOf, u8Call, u16Call, u32Call, u64Call, i32Call, i64Call, boolCall, idCall, stringCall, tokenCall, rgbCall, nextIdCall, peekIdCall, nextTokenCall, peekTokenCall, skipCall}
 use Rattle.lexer.specs.declared.Lexer.{Lexer}
@@ -55,10 +51,6 @@ use Rattle.lexer.specs.declared.answers.PeekToken.{PeekToken}
 use Rattle.lexer.specs.declared.answers.PeekToken.the-variants as PeekT
 use Rattle.lexer.specs.declared.answers.LexSkip.{LexSkip}
 use Rattle.lexer.specs.declared.answers.LexSkip.the-variants as Skip
-
--- promises that are plain equations: a position, a kind, the contents of a part
-pub plain-one : {A : Type 0} {a : A} (r r′ : A) → r ≡ a → r′ ≡ a → r ≡ r′
-plain-one r r′ p q = p ∙ sym q
 
 abbrev lexerOf : Cursor → Lexer
 lexerOf c = record { at = c .at }
@@ -161,16 +153,13 @@ pub token-one : (c : Lexer) {a : Call Token} (r r′ : LexToken) → tokenCall c
 token-one c = same (tokenCall c) (back Tok.Got Tok.Refused) (token-back c)
 
 -- a colour stands for a value of one case only, as in its leaf's answer
-colour-one : (x x′ : Rgb) → colourOf x ≡ colourOf x′ → x ≡ x′
-colour-one x x′ p = cc (leaf-rgb-one (ReadRgb.Got x 0) (ReadRgb.Got x′ 0) (ap (λ v. found v 0) p) refl)
-
 colours : (c : Lexer) (r r′ : LexRgb) → rgbCall c r ≡ rgbCall c r′ → r ≡ r′
 colours c (Colour.Got x d) (Colour.Got x′ d′) p =
     let v : colourOf x ≡ colourOf x′ = cc in
     let q : cursorOf d ≡ cursorOf d′ = cc in
     cc (colour-one x x′ v, new-one d d′ q refl)
-colours c (Colour.Got x d) (Colour.Refused e) p = let z : _≡_ {A = ℕ} 0 1 = cc in absurd (omega arith)
-colours c (Colour.Refused e) (Colour.Got x d) p = let z : _≡_ {A = ℕ} 0 1 = cc in absurd (omega arith)
+colours c (Colour.Got x d) (Colour.Refused e) p = cc
+colours c (Colour.Refused e) (Colour.Got x d) p = cc
 colours c (Colour.Refused e) (Colour.Refused e′) p =
     let q : refusalOf e ≡ refusalOf e′ = cc in
     ap Colour.Refused (same refusalOf refusalBack refusal-back e e′ q refl)

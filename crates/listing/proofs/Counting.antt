@@ -1,8 +1,8 @@
 -- The tally, which looks back, and the definition's counts, which look ahead. Assumes nothing.
 use Prim.Native.Nat.{ℕ, _+_, _-_, _≤_}
-use native.Mathlib.Nat.{add-zero}
+use native.Mathlib.Nat.{zero-add, add-zero, add-assoc}
 use native.Mathlib.Omega.{arith}
-use mathlib.Core.Path.{_≡_}
+use mathlib.Core.Path.{_≡_, sym}
 use mathlib.Core.Bool.{Bool, true, false, _&&_}
 use mathlib.Core.List.{List, [], _∷_}
 use lib.Dec.{eqb}
@@ -30,9 +30,6 @@ total c w = record {
   strays = c .strays + count isStray (c .depth) w;
 }
 
-assoc : (a b c : ℕ) → a + (b + c) ≡ a + b + c
-assoc a b c = omega arith
-
 -- a candidate is counted when Equal comes, or before it
 key-step : (was equal : Bool) (a b n : ℕ) → a + (bit (was && equal) + (b + n)) ≡ a + bit (equal && was) + (b + n)
 key-step true true a b n = omega arith
@@ -44,14 +41,11 @@ key-step false false a b n = omega arith
 pub total-step : (c : Tally) (p n : ℕ) (v : Value) (w : Walk) → total c (then p n v w) ≡ total (tallied c v) w
 unfolding count isKey equalNext
 total-step c p n v w = λ i. record {
-  tokens = assoc (c .tokens) 1 (count anyToken (deeper v (c .depth)) w) i;
-  containers = assoc (c .containers) (bit (isOpen v)) (count isContainer (deeper v (c .depth)) w) i;
+  tokens = sym (add-assoc (c .tokens) 1 (count anyToken (deeper v (c .depth)) w)) i;
+  containers = sym (add-assoc (c .containers) (bit (isOpen v)) (count isContainer (deeper v (c .depth)) w)) i;
   keys = key-step (c .candidate) (isEqual v) (c .keys) (bit ((tallied c v) .candidate && equalNext w)) (count isKey (deeper v (c .depth)) w) i;
-  strays = assoc (c .strays) (bit (isClose v && eqb (c .depth) 0)) (count isStray (deeper v (c .depth)) w) i;
+  strays = sym (add-assoc (c .strays) (bit (isClose v && eqb (c .depth) 0)) (count isStray (deeper v (c .depth)) w)) i;
 }
-
-zero-add : (n : ℕ) → 0 + n ≡ n
-zero-add n = omega arith
 
 zero-add₂ : (n : ℕ) → 0 + (0 + n) ≡ n
 zero-add₂ n = omega arith

@@ -11,8 +11,9 @@ use lib.Signed.{ltZ}
 use lib.ListN.{length, drop, length-append, length-drop}
 use lib.Dec.{ltb}
 use borrow.Author.Tests.{ltb-false}
-use mir.Syntax.{w32, w64}
+use mir.Syntax.{w64}
 use mir.Val.{SFits}
+use mir.Facts.{sfits-widen}
 use Rattle.form.specs.Numbers.{pick, leBytes, Bytes}
 use Rattle.form.specs.Values.{Value, Open, Close, Equal, U32, U64, F32, F64, Lookup, Id, I32, I64, Truth, Quoted, Unquoted, Rgb}
 use Rattle.form.specs.Refusals.{Fault, tooShort, badColour, refusalNumber, refusalValues, refusalAt}
@@ -60,10 +61,6 @@ signed-short z h = go (ltZ z (pos 0))
     go true = omega (arith, decimal-short (natAbs z) h)
     go false = omega (arith, decimal-short (natAbs z) h)
 
-abs32 : (z : ℤ) → SFits w32 z → natAbs z < most
-abs32 (pos n) s = omega (arith, s .sfits)
-abs32 (negsuc n) s = omega (arith, s .sfits)
-
 abs64 : (z : ℤ) → SFits w64 z → natAbs z < most
 abs64 (pos n) s = omega (arith, s .sfits)
 abs64 (negsuc n) s = omega (arith, s .sfits)
@@ -97,7 +94,7 @@ words-short (F32 n) h = simp length-append (omega (arith, hex-length (leBytes 4 
 words-short (F64 n) h = simp length-append (omega (arith, hex-length (leBytes 8 n)))
 words-short (Lookup n) h = simp length-append (omega (arith, decimal-short n (omega arith)))
 words-short (Id i) h = simp length-append (omega (arith, decimal-short i (omega arith)))
-words-short (I32 z) h = simp length-append (omega (arith, signed-short z (abs32 z h)))
+words-short (I32 z) h = simp length-append (omega (arith, signed-short z (abs64 z (sfits-widen tt h))))
 words-short (I64 z) h = simp length-append (omega (arith, signed-short z (abs64 z h)))
 words-short (Truth b) h = simp length-append (omega (arith, truth-length b))
 words-short (Quoted t) h = simp length-append (omega (arith, dash-length t))

@@ -1,4 +1,3 @@
-pub mod Widen
 pub mod Lines
 pub mod Counting
 pub mod Reading

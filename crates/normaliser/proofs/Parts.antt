@@ -5,13 +5,14 @@ use mathlib.Core.Path.{_≡_, refl, sym, ap, _∙_}
 use mathlib.Core.Bool.{false}
 use mathlib.Core.Option.{Option, none, some}
 use mathlib.Core.List.{List, [], _++_, append-assoc}
-use lib.ListN.{length, take, drop, length-append, length-drop}
-use lib.Seq.{take-add, drop-drop, length-take-le}
+use lib.ListN.{length, take, drop, length-append}
+use lib.Seq.{take-add, drop-drop}
 use Rattle.form.specs.Values.{Value}
 use Rattle.form.specs.Refusals.{Refusal}
 use Rattle.form.specs.Spelling.{spell, wide}
 use Rattle.form.specs.Saves.{Walk, then, walk, values, tokens, spellAll, normal}
 use Rattle.form.specs.Writing.{Output, written, unwritten, firstRefusal, unless}
+use Rattle.form.proofs.Runs.{part-length}
 use Rattle.form.proofs.Walking.{from, from-end}
 use Rattle.normaliser.specs.Parts.{gives, rest, before, between, Spells}
 use Rattle.normaliser.specs.Passes.{unbounded}
@@ -65,7 +66,7 @@ spells-then {s} {a} {b} {p} {q} {r} x y = record {
 -- ---- the save's own bytes
 
 pub between-length : (s : List ℕ) (p q : ℕ) → q ≤ length s → length (between s p q) ≡ q - p
-between-length s p q h = length-take-le (q - p) (drop p s) (omega (arith, length-drop p s))
+between-length s p q h = part-length s p (q - p) (omega arith)
 
 pub between-then : (s : List ℕ) (p q r : ℕ) → p ≤ q → q ≤ r → between s p q ++ between s q r ≡ between s p r
 between-then s p q r h l =

@@ -17,6 +17,7 @@ use Rattle.form.specs.Readers.{found, refused}
 use Rattle.form.specs.Spelling.{spell, wide}
 use Rattle.form.specs.Saves.{Walk, cut}
 use Rattle.form.specs.Writing.{Output, unwritten, Outcome, wrote, declined, outcome, leaves, fitted, firstRefusal, unless}
+use Rattle.form.proofs.Never.{never}
 use Rattle.form.proofs.LittleEndian.{bytes-all}
 use Rattle.token.specs.declared.Token.{Token}
 use Rattle.token.specs.Tokens.{valueOf, tokenAt}
@@ -25,7 +26,7 @@ use Rattle.writer.specs.declared.Wrote.{Wrote}
 use Rattle.writer.specs.declared.Wrote.the-variants as W
 use Rattle.writer.proofs.Wrote.{the-type}
 use Rattle.writer.specs.Writes.{writeToken, wroteOutcome, Follows}
-use Rattle.writer.proofs.Fitting.{never, fitted-written, fitted-refused}
+use Rattle.writer.proofs.Fitting.{fitted-written, fitted-refused}
 use Rattle.normaliser.specs.declared.Normalised.{Normalised}
 use Rattle.normaliser.specs.declared.Normalised.the-variants.{NotEncodable}
 use Rattle.normaliser.specs.Parts.{gives, Placed, Respelt, Stopped}
@@ -56,8 +57,8 @@ is-wide : (w : Bool) (room : ℕ) (bs : List ℕ) (x : Wrote) → wroteOutcome x
 is-wide true room bs x e q = refl
 is-wide false room bs (W.Written n) e q = absurd (⊎-elim (λ h. omega arith) (λ h. omega arith) q)
 is-wide false room bs (W.NoRoom n) e q = absurd (⊎-elim (λ h. omega arith) (λ h. omega arith) q)
-is-wide false room bs (W.NotEncodable p) e q = let f : R.NotEncodable p ≡ R.NoRoom (length bs) = fitted-refused room bs e .0 in never (cc)
-is-wide false room bs (W.BadPlace p) e q = let f : R.BadPlace p ≡ R.NoRoom (length bs) = fitted-refused room bs e .0 in never (cc)
+is-wide false room bs (W.NotEncodable p) e q = let f : R.NotEncodable p ≡ R.NoRoom (length bs) = fitted-refused room bs e .0 in cc
+is-wide false room bs (W.BadPlace p) e q = let f : R.BadPlace p ≡ R.NoRoom (length bs) = fitted-refused room bs e .0 in cc
 
 -- ---- a token that was read
 

@@ -3,7 +3,7 @@ use Prim.Native.Nat.{ℕ, _+_, _-_, _^_, _≤_, _<_, zero-le}
 use native.Mathlib.Omega.{arith}
 use native.Mathlib.Nat.{add-zero}
 use mathlib.Core.Path.{_≡_, refl, sym, ap, _∙_}
-use mathlib.Core.Bool.{Bool, true, false, _&&_, _||_}
+use mathlib.Core.Bool.{Bool, true, false, _&&_, _||_, and-false, or-true}
 use mathlib.Core.List.{List}
 use lib.ListN.{length, take, drop, getD, length-drop}
 use lib.Seq.{drop-drop}
@@ -25,7 +25,7 @@ use Rattle.form.proofs.Elsewhere.{eachId, listed, MissedAll, elsewhere}
 use Rattle.form.proofs.Standing as Standing
 use Rattle.form.proofs.Standing.{KeptNumber, KeptText, KeptColour, number-stands, text-stands, colour-stands, alone, plain-alone, alone-kept}
 use Rattle.token.proofs.Walks.{read}
-use Rattle.writer.proofs.Fitting.{never}
+use Rattle.form.proofs.Never.{never}
 use Rattle.normaliser.specs.declared.spelling.Spelling.{Spelling}
 use Rattle.normaliser.specs.declared.spelling.Spelling.the-variants.{Stands, F64, Lookup, Otherwise}
 use Rattle.normaliser.specs.declared.spelling.Run.{Run}
@@ -162,14 +162,6 @@ module _ (s : List ℕ) (b : (j : ℕ) → Fits w8 (getD s j 0)) (p : ℕ) where
 
 abbrev lookups : ℕ → Bool
 lookups i = leb 0x0d3e i && leb i 0x0d5e
-
-or-true : (b : Bool) → b || true ≡ true
-or-true true = refl
-or-true false = refl
-
-and-false : (b : Bool) → b && false ≡ false
-and-false true = refl
-and-false false = refl
 
 -- an id that no arm has is spelled alone, outside the lookups, if each of the table's ids there is
 module _ (kss : List (List ℕ)) (e : eachId (λ k. listed k kss || (lookups k || alone k)) entries ≡ true) (x : ℕ) (m : MissedAll (Unit {0}) kss x) where

@@ -12,9 +12,9 @@ use lib.Seq.{take-nil, drop-drop}
 use borrow.Author.Tests.{leb-true}
 use Rattle.form.specs.Numbers.{pick, le, Bytes}
 use Rattle.form.proofs.LittleEndian.{drop-bytes}
-use Rattle.payload.specs.Compact.{least7}
+use Rattle.payload.specs.Compact.{atMost7}
 
-pub at-most-7 : (w : ℕ) → least7 w ≤ 7
+pub at-most-7 : (w : ℕ) → atMost7 w ≤ 7
 at-most-7 w = go (leb w 7) refl
   where
     go : (b : Bool) → leb w 7 ≡ b → pick b w 7 ≤ 7

@@ -9,6 +9,7 @@ use Rattle.form.specs.Values.{Value}
 use Rattle.form.specs.Table.{colour}
 use Rattle.form.specs.Readers.{Answer, found, refused, Reader, further, at}
 use Rattle.form.specs.Reading.{rgb, payload}
+use Rattle.form.proofs.Never.{never}
 use Rattle.form.proofs.Found.{All, payload-in}
 use Rattle.split.specs.Splits.{restOf}
 use Rattle.split.proofs.Laws.{rest-drop}
@@ -32,4 +33,4 @@ colour-in t {v} {n} e = go (rgb t) (payload-in colour t) e
   where
     go : (x : Answer Value) → All (λ _ m. m ≤ length t) x → further 0 x ≡ found v n → n ≤ length t
     go (found a m) h q = let k : 0 + m ≡ n = cc in omega arith
-    go (refused why) h q = let z : _≡_ {A = ℕ} 0 1 = cc in absurd (omega arith)
+    go (refused why) h q = never (cc)

@@ -1,7 +1,6 @@
 -- Any two results that a promise allows are equal: each answer can be read back from what it stands for. Each theorem is for every read that
 -- gives the answer of its name. Assumes nothing.
 use Prim.Native.Nat.{ℕ}
-use native.Mathlib.Omega.{arith}
 use mathlib.Core.Path.{_≡_, refl, sym, ap, _∙_}
 use mathlib.Core.Bool.{Bool}
 use mathlib.Core.Option.{Option, none, some}
@@ -130,7 +129,7 @@ alpha-back (Given a) = refl
 abbrev painted : ℕ → ℕ → ℕ → Alpha → Rgb
 painted r g b a = record { r = r; g = g; b = b; a = a }
 
-colour-one : (x x′ : Rgb) → colourOf x ≡ colourOf x′ → x ≡ x′
+pub colour-one : (x x′ : Rgb) → colourOf x ≡ colourOf x′ → x ≡ x′
 colour-one x x′ p =
     let r : x .r ≡ x′ .r = cc in
     let g : x .g ≡ x′ .g = cc in
@@ -145,8 +144,8 @@ colours (Colour.Got x n) (Colour.Got x′ n′) p =
     let v : colourOf x ≡ colourOf x′ = cc in
     let m : n ≡ n′ = cc in
     cc (colour-one x x′ v)
-colours (Colour.Got x n) (Colour.Refused e) p = let z : _≡_ {A = ℕ} 0 1 = cc in absurd (omega arith)
-colours (Colour.Refused e) (Colour.Got x n) p = let z : _≡_ {A = ℕ} 0 1 = cc in absurd (omega arith)
+colours (Colour.Got x n) (Colour.Refused e) p = cc
+colours (Colour.Refused e) (Colour.Got x n) p = cc
 colours (Colour.Refused e) (Colour.Refused e′) p = let f : faultOf e ≡ faultOf e′ = cc in ap Colour.Refused (refusal-one e e′ f refl)
 
 pub rgb-one : {a : Answer F.Value} (r r′ : ReadRgb) → rgbAnswer r ≡ a → rgbAnswer r′ ≡ a → r ≡ r′

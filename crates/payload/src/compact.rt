@@ -6,14 +6,14 @@ ghost use Rattle.form.specs.Numbers.{le, negated};
 ghost use Rattle.form.specs.Readers.{at as readAt};
 ghost use Rattle.form.specs.Reading.{num};
 ghost use Rattle.payload.specs.Answers.{u64Answer};
-ghost use Rattle.payload.specs.Compact.{least7};
+ghost use Rattle.payload.specs.Compact.{atMost7};
 use crate::answers::LexError;
 use crate::answers::ReadU64;
 use crate::numbers;
 
 // A width over seven counts as seven.
 pub(crate) fn capped(width: usize) -> usize
-    ensures { λ r. ⌜ r ≡ least7 width ⌝ }
+    ensures { λ r. ⌜ r ≡ atMost7 width ⌝ }
 {
     if width <= 7 { width } else { 7 }
 }

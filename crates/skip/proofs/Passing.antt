@@ -1,6 +1,5 @@
 -- What a walk passes after an id: how the leaves answer, the arms of the code's `match`, and the widths of compact numbers. Assumes nothing.
 use Prim.Native.Nat.{ℕ, _+_, _-_, _≤_, _<_, zero-le}
-use native.Mathlib.Omega.{arith}
 use native.Mathlib.Nat.{add-zero}
 use mathlib.Core.Path.{_≡_, refl, sym, ap, _∙_}
 use mathlib.Core.Bool.{Bool, true, false, _||_, or-true}
@@ -10,17 +9,16 @@ use lib.ListN.{length, take, drop}
 use lib.Dec.{eqb, leb}
 use borrow.Author.Tests.{eqb-true}
 use Rattle.form.specs.Numbers.{pick, le}
-use Rattle.form.specs.Values.{Value}
 use Rattle.form.specs.Table.{Payload, number, text, colour, entries, after}
 use Rattle.form.specs.Refusals.{Fault, tooShort}
 use Rattle.form.specs.Readers.{Answer, found, refused, further, andThen, mapped, placed, at}
-use Rattle.form.specs.Reading.{next, num, string, payload}
-use Rattle.form.specs.Skipping.{stepped, passing}
-use Rattle.form.proofs.Lookups.{plain-after, compact-in, negated-at}
-use Rattle.form.proofs.Places.{num-there, num-short, string-then, at-giving, at-on}
+use Rattle.form.specs.Reading.{next, num, string}
+use Rattle.form.specs.Skipping.{passing}
+use Rattle.form.proofs.Lookups.{plain-after, compact-in, negated-in}
+use Rattle.form.proofs.Places.{num-there, num-short, string-then, at-giving}
 use Rattle.form.proofs.SkipSteps.{pass-number, pass-text, pass-colour}
 use Rattle.form.proofs.Elsewhere.{eachId, listed, MissedAll, elsewhere}
-use Rattle.skip.specs.Walks.{room, stepsOver}
+use Rattle.skip.specs.Walks.{span, stepsOver}
 
 -- ---- a number or a text is refused for too few bytes, and for nothing else
 
@@ -72,14 +70,14 @@ module _ {B : Type 0} (f : ℕ → List ℕ → B) (s : List ℕ) (p : ℕ) wher
     where
       go : (x : Answer (List ℕ)) → placed f x ≡ found b n → mapped (λ _. tt {0}) x ≡ found tt n
       go (found a m) q = let r : m ≡ n = cc in ap (found tt) r
-      go (refused why) q = let z : _≡_ {A = ℕ} 0 1 = cc in absurd (omega arith)
+      go (refused why) q = cc
 
   pub short-string : {why : Fault} → placed f (at string s p) ≡ refused why → mapped (λ _. tt {0}) (at string s p) ≡ refused tooShort
   unfolding placed mapped
   short-string {why} e = go (at string s p) (only-string s p) e
     where
       go : (x : Answer (List ℕ)) → OnlyShort x → placed f x ≡ refused why → mapped (λ _. tt {0}) x ≡ refused tooShort
-      go (found a m) h q = let z : _≡_ {A = ℕ} 0 1 = cc in absurd (omega arith)
+      go (found a m) h q = cc
       go (refused w) h q = ap refused h
 
 -- ---- past what a walk steps over after an id
@@ -95,7 +93,7 @@ module _ (i : ℕ) (s : List ℕ) (p : ℕ) where
   crossing : passing i s p ≡ crossed (stepsOver i) s p
   crossing = go (after i) refl
     where
-      go : (q : Payload) → after i ≡ q → passing i s p ≡ crossed (room q) s p
+      go : (q : Payload) → after i ≡ q → passing i s p ≡ crossed (span q) s p
       go (number w f) h = pass-number i s p h
       go (text f) h = pass-text i s p h
       go colour h = pass-colour i s p h ∙ sym past-nothing
@@ -107,14 +105,6 @@ module _ (i : ℕ) (s : List ℕ) (p : ℕ) where
   pub passed-nothing : stepsOver i ≡ some 0 → found tt p ≡ passing i s p
   passed-nothing e = sym past-nothing ∙ passed (some 0) e
 
-  pub passed-on : {m : ℕ} → passing i s p ≡ found tt m → p ≤ m
-  unfolding passing mapped
-  passed-on {m} e = go (at (payload (stepped i (after i))) s p) (λ v n q. at-on (payload (stepped i (after i))) s p q) e
-    where
-      go : (x : Answer Value) → ((v : Value) (n : ℕ) → x ≡ found v n → p ≤ n) → mapped (λ _. tt {0}) x ≡ found tt m → p ≤ m
-      go (found v n) h q = let r : n ≡ m = cc in omega (arith, h v n refl)
-      go (refused w) h q = let z : _≡_ {A = ℕ} 0 1 = cc in absurd (omega arith)
-
 -- ---- the default of a `match`
 
 abbrev isNothing : Option ℕ → Bool
@@ -122,7 +112,7 @@ isNothing none = false
 isNothing (some w) = eqb w 0
 
 nothing-some : (o : Option ℕ) → isNothing o ≡ true → o ≡ some 0
-nothing-some none e = let z : _≡_ {A = ℕ} 0 1 = cc in absurd (omega arith)
+nothing-some none e = cc
 nothing-some (some w) e = ap some (eqb-true w 0 e)
 
 -- no byte follows an id that no arm has and that is none of some others, if each of the table's ids with a payload is in an arm or is
@@ -136,7 +126,7 @@ bare other kss e x m h =
 -- ---- the compact numbers
 
 pub compact-steps : (x : ℕ) → 0x0d47 ≤ x → x < 0x0d4f → stepsOver x ≡ some (x - 0x0d47)
-compact-steps x lo hi = ap room (compact-in x lo hi)
+compact-steps x lo hi = ap span (compact-in x lo hi)
 
 pub negated-steps : (x : ℕ) → 0x0d4f ≤ x → x < 0x0d56 → stepsOver x ≡ some (x - 0x0d4e)
-negated-steps x lo hi = ap room (negated-at x lo hi)
+negated-steps x lo hi = ap span (negated-in x lo hi)

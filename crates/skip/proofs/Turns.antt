@@ -100,7 +100,7 @@ stepped-same i h = go (after i) (elsewhere (λ k. noColour (after k)) ((0x0243 �
     go : (q : Payload) → noColour q ≡ true → stepped i q ≡ q
     go (number w f) e = refl
     go (text f) e = refl
-    go colour e = let z : _≡_ {A = ℕ} 0 1 = cc in absurd (omega arith)
+    go colour e = cc
 
 stop-mapped : {A : Type 0} (p : ℕ) (x : Answer A) → orStop p (mapped (λ _. tt {0}) x) (λ _ m. past m) ≡ orStop p x (λ _ m. past m)
 unfolding orStop mapped

@@ -12,13 +12,13 @@ use Rattle.skip.specs.declared.walk.Turn.{Turn}
 use Rattle.skip.specs.declared.walk.Turn.the-variants.{On, Out, Short}
 
 -- what a walk steps over after an id: so many bytes, or a text
-abbrev pub room : Payload → Option ℕ
-room (number w f) = some w
-room (text f) = none
-room colour = some 0
+abbrev pub span : Payload → Option ℕ
+span (number w f) = some w
+span (text f) = none
+span colour = some 0
 
 abbrev pub stepsOver : ℕ → Option ℕ
-stepsOver i = room (after i)
+stepsOver i = span (after i)
 
 -- from place p at depth d: at depth 0 the walk is over
 unfoldable pub walkFrom : ℕ → List ℕ → ℕ → Skip

@@ -10,6 +10,7 @@ use lib.Seq.{sets, length-sets}
 use borrow.Author.Tests.{le-leb, lt-leb, leb-true}
 use Rattle.form.specs.Numbers.{pick}
 use Rattle.form.specs.Refusals.{Refusal, Eof, BufferTooSmall, ReadFailed, BadPlace}
+use Rattle.form.proofs.Runs.{part-length}
 use Rattle.source.specs.declared.ParserSource.{ParserSource}
 use Rattle.source.specs.declared.Check.{Check}
 use Rattle.source.specs.declared.Check.the-variants.{Fine, Bad}
@@ -17,7 +18,7 @@ use Rattle.source.specs.declared.reads.Reads.{Reads}
 use Rattle.source.specs.Reads.{one, fill}
 use Rattle.source.specs.Window.{unread, unreadIn, heldIn, checked, checkedIn, past, landed, landedIn, Step, gives, refuses, Call, fitting, ifFine, ifGiven, toppedBy, topped, ensured, onceBy, once, refilled, advanced, window, windowLen, windowOf}
 use Rattle.source.specs.Good.{Good}
-use Rattle.source.proofs.Stores.{sets-then, part-length}
+use Rattle.source.proofs.Stores.{sets-then}
 use Rattle.source.proofs.Filling.{Within, one-within, fill-within}
 use Rattle.source.proofs.States.{good}
 

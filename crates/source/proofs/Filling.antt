@@ -10,9 +10,10 @@ use lib.ListN.{length, getD, take, drop, drop-of-length-le, length-drop}
 use lib.Seq.{sets, length-sets, drop-cons, drop-drop}
 use borrow.Author.Tests.{eq-eqb, ne-eqb, eqb-true}
 use Rattle.form.specs.Numbers.{pick}
+use Rattle.form.proofs.Runs.{part-length}
 use Rattle.source.specs.declared.reads.Reads.{Reads}
 use Rattle.source.specs.Reads.{FAILS, came, one, onward, fill}
-use Rattle.source.proofs.Stores.{sets-then, part-length, part-add}
+use Rattle.source.proofs.Stores.{sets-then, part-add}
 
 -- ---- one read, by the entry's place
 
@@ -164,13 +165,13 @@ module _ (buffer₀ supply schedule : List ℕ) (at from entry : ℕ) where
 
       pub goes : (r .got ≡ 0 → ⊥) → Going last (got + r .got) (used + r .used)
       goes n =
+          let l = part-length supply from got (omega (arith, g .left)) in
           let v = within in
           let a = sub-more (length buffer₀) at got (r .got) in
           let b = sub-more (length supply) from got (r .got) in
           let d : drop (r .used) (drop (entry + used) schedule) ≡ drop (entry + (used + r .used)) schedule =
           drop-drop (r .used) (entry + used) schedule ∙ ap (λ (k : ℕ). drop k schedule) (add-assoc entry used (r .used)) in
           let x : rest got used ≡ after (r .got) (r .used) (rest (got + r .got) (used + r .used)) = rw (ne-eqb _ _ n, a, b, d) at step in
-          let l = part-length supply from got (g .left) in
           record {
             room = room-left at got (r .got) (length buffer₀) (g .room) (v .fits);
             left = room-left from got (r .got) (length supply) (g .left) (v .there);

@@ -6,18 +6,15 @@ use native.Mathlib.Omega.{arith}
 use lib.ListN.{take, drop}
 use lib.Seq.{take-append-le, take-take}
 use Rattle.form.specs.Numbers.{le}
+use Rattle.form.proofs.Runs.{part-length}
 use Rattle.payload.specs.declared.answers.Text.{Text}
 use Rattle.payload.proofs.Texts.{within}
 use Rattle.source.specs.declared.ParserSource.{ParserSource}
 use Rattle.source.specs.Window.{unread, past, Step, gives, refuses, andThen, _then_, textAt, heldIn, textIn, window, ensured, taken}
 use Rattle.source.specs.Binary.{spelledAt, number}
 use Rattle.source.specs.Runs.{ahead}
-use Rattle.source.proofs.Stores.{part-length}
 use Rattle.source.proofs.Cases.{ensured-by, ready}
 use Rattle.source.proofs.Kept.{Sound, Keeps, ensured-keeps, drop-none}
-
-never : {A : Type 0} → _≡_ {A = ℕ} 0 1 → A
-never z = absurd (omega arith)
 
 module _ (supply schedule : List ℕ) (s : ParserSource) (buffer : List ℕ) (g : Sound supply schedule s buffer) (n : ℕ) where
   -- `ensure_bytes` reads nothing, so the bytes to come stay
@@ -56,7 +53,7 @@ module _ (supply schedule : List ℕ) (s : ParserSource) (buffer : List ℕ) (g 
           let x : m ≡ b = cc in
           let w = ready supply schedule s buffer n q in
           rw (← z, ← y, ← x, within (heldIn supply v m) (textAt (v .start) n) (omega (arith, w .good, w .there))) (front q)
-      by (refuses r v m) q h = never (cc)
+      by (refuses r v m) q h = cc
 
   -- and the number that is read
   pub number-bytes : {i : ℕ} {u : ParserSource} {b : List ℕ} → number supply schedule n s buffer ≡ gives i u b → i ≡ le (take n (ahead supply s buffer))
@@ -69,4 +66,4 @@ module _ (supply schedule : List ℕ) (s : ParserSource) (buffer : List ℕ) (g 
       by (gives a v m) q h =
           let z : spelledAt supply n (past n v) (v .start) m ≡ i = cc in
           sym z ∙ ap le (front q)
-      by (refuses r v m) q h = never (cc)
+      by (refuses r v m) q h = cc

@@ -13,6 +13,7 @@ use Rattle.form.specs.Numbers.{pick}
 use Rattle.form.specs.Refusals.{refusalNumber}
 use Rattle.form.specs.Values.{Value, Rgb}
 use Rattle.form.specs.Ids.{OPEN, CLOSE, CHANNEL}
+use Rattle.form.proofs.Runs.{part-length}
 use Rattle.payload.specs.declared.answers.Text.{Text}
 use Rattle.source.specs.declared.ParserSource.{ParserSource}
 use Rattle.source.specs.declared.reads.Reads.{Reads}
@@ -20,7 +21,7 @@ use Rattle.source.specs.Window.{unread, unreadIn, past, landed, Step, gi
 use Rattle.source.specs.Good.{Good}
 use Rattle.source.specs.Binary.{invalid, number, id, peekedId, stringOf, string, expected, channel, withAlpha, endedBy, ending, channels, colour}
 use Rattle.source.specs.Runs.{ahead}
-use Rattle.source.proofs.Stores.{take-sets, part-length}
+use Rattle.source.proofs.Stores.{take-sets}
 use Rattle.source.proofs.Filling.{Within}
 use Rattle.source.proofs.Cases.{sound, by-check, ensured-by, refilled-by, landed-good, past-good, ready, fill-fits, one-fits}
 

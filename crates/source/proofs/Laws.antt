@@ -4,11 +4,11 @@ use mathlib.Core.Bool.{Bool, true, false, _&&_}
 use mathlib.Core.Option.{none, some}
 use mathlib.Core.List.{List}
 use Prim.Native.Nat.{ℕ}
-use native.Mathlib.Omega.{arith}
 use lib.Dec.{leb}
 use Rattle.form.specs.Numbers.{pick}
 use Rattle.form.specs.Refusals.{Fault}
 use Rattle.form.specs.Readers.{found, refused}
+use Rattle.form.proofs.Never.{never}
 use Rattle.payload.specs.declared.answers.Text.{Text}
 use Rattle.source.specs.declared.ParserSource.{ParserSource}
 use Rattle.source.specs.declared.answers.Stop.{Stop}
@@ -54,4 +54,4 @@ module _ (supply schedule : List ℕ) (n : ℕ) (s : ParserSource) (buffer : Lis
 
 -- a number that is there is not refused
 pub found-not-refused : {A B : Type 0} {a : B} {n : ℕ} {e : Fault} → found a n ≡ refused e → A
-found-not-refused h = let z : _≡_ {A = ℕ} 0 1 = cc in absurd (omega arith)
+found-not-refused h = never (cc)

@@ -2,27 +2,20 @@
 use mathlib.Core.Path.{_≡_, refl}
 use mathlib.Core.Bool.{Bool, true, false}
 use Prim.Native.Nat.{ℕ, _+_, _-_, _≤_, _<_}
-use native.Mathlib.Omega.{arith}
 use lib.Dec.{ltb}
 use borrow.Author.Tests.{ltb-false, lt-ltb, le-ltb}
 use Rattle.form.specs.Numbers.{pick}
+use Rattle.form.proofs.Never.{never}
 use Rattle.source.specs.declared.ParserSource.{ParserSource}
-use Rattle.source.specs.declared.Check.{Check}
 use Rattle.source.specs.declared.Check.the-variants.{Fine, Bad}
 use Rattle.source.specs.Window.{unread, checked}
 use Rattle.source.specs.Good.{Good}
-
-never : {A : Type 0} → _≡_ {A = ℕ} 0 1 → A
-never z = absurd (omega arith)
 
 -- ---- the checks, one by one: each number is looked at where those before it fit
 
 module _ (s : ParserSource) (held supply schedule : ℕ) where
   abbrev sum : ℕ
   sum = s .position + unread s + (supply - s .supply)
-
-  abbrev last : Check
-  last = pick (ltb 0xffff_ffff_ffff_ffff sum) (Bad (s .position)) Fine
 
   pub bad-start : s .end < s .start → checked s held supply schedule ≡ Bad (s .start)
   unfolding checked
@@ -69,6 +62,3 @@ good-by s held supply schedule false false false false false h₁ h₂ h₃ h₄
 pub good : (s : ParserSource) (held supply schedule : ℕ) → checked s held supply schedule ≡ Fine → Good s held supply schedule
 unfolding checked
 good s held supply schedule e = good-by s held supply schedule _ _ _ _ _ refl refl refl refl refl e
-
-pub fine : {s : ParserSource} {held supply schedule : ℕ} → Good s held supply schedule → checked s held supply schedule ≡ Fine
-fine {s} {held} {supply} {schedule} g = all-fine s held supply schedule (g .ordered) (g .within) (g .supplied) (g .scheduled) (g .sum)

@@ -5,8 +5,8 @@ use Prim.Native.Nat.{ℕ, zero, suc, _+_, _-_, _≤_, _<_}
 use native.Mathlib.Nat.{not-suc-le-zero}
 use native.Mathlib.Numerals.{add-one, sub-one}
 use native.Mathlib.Omega.{arith}
-use lib.ListN.{length, take, drop, getD, set, length-drop}
-use lib.Seq.{sets, sets-eq, drop-cons, drop-drop, drop-set-lt, take-at, take-add, length-take-le}
+use lib.ListN.{length, take, drop, getD, set}
+use lib.Seq.{sets, sets-eq, drop-cons, drop-drop, drop-set-lt, take-at, take-add}
 use Rattle.form.proofs.Runs.{sets-append}
 
 -- two runs are one run, where the second begins at a place that is given otherwise
@@ -16,10 +16,6 @@ sets-then a b l i j h = ap (λ (k : ℕ). sets (sets l i a) k b) h ∙ sets-appe
 -- what was stored at the front is there
 pub take-sets : (l a : List ℕ) (n : ℕ) → length a ≡ n → n ≤ length l → take n (sets l 0 a) ≡ a
 take-sets l a n e h = ap (take n) (sets-eq a l 0 (omega arith)) ∙ take-at a (drop (0 + length a) l) n e
-
--- a part within a list has the length that is asked
-pub part-length : (s : List ℕ) (start len : ℕ) → start + len ≤ length s → length (take len (drop start s)) ≡ len
-part-length s start len h = length-take-le len (drop start s) (simp length-drop (omega arith))
 
 -- a part, and the part after it
 pub part-add : (s : List ℕ) (start n m : ℕ) → take n (drop start s) ++ take m (drop (start + n) s) ≡ take (n + m) (drop start s)

@@ -11,6 +11,7 @@ use borrow.Author.Tests.{eq-eqb, ne-eqb}
 use Rattle.form.specs.Numbers.{pick}
 use Rattle.form.specs.Values.{Rgb}
 use Rattle.form.specs.Refusals.{Refusal, InvalidRgb, refusalNumber}
+use Rattle.form.proofs.Never.{never}
 use Rattle.form.proofs.Lookups.{open-is, close-is, channel-is}
 use Rattle.payload.specs.declared.answers.Text.{Text}
 use Rattle.source.specs.declared.ParserSource.{ParserSource}
@@ -30,9 +31,6 @@ module _ {A B : Type 0} (f : Call A) (g : A → Call B) (s : ParserSource) (buff
   pub then-stop : {r : Refusal} {t : ParserSource} {b : List ℕ} → f s buffer ≡ refuses r t b → (f then g) s buffer ≡ refuses r t b
   unfolding _then_ andThen
   then-stop e = rw e
-
-never : {A : Type 0} → _≡_ {A = ℕ} 0 1 → A
-never z = absurd (omega arith)
 
 module _ (supply schedule : List ℕ) (s : ParserSource) (buffer : List ℕ) where
   -- ---- the bytes are there

@@ -5,16 +5,12 @@ use mathlib.Core.Bool.{Bool}
 use mathlib.Core.Option.{Option, none, some}
 use mathlib.Core.List.{List}
 use Prim.Native.Nat.{ℕ}
-use native.Mathlib.Omega.{arith}
 use Rattle.form.specs.Refusals as F
-use Rattle.form.specs.Readers.{found}
 use Rattle.form.specs.Values.{Value}
 use Rattle.form.proofs.Unique.{same}
 use Rattle.payload.specs.declared.answers.Text.{Text}
-use Rattle.payload.specs.declared.answers.Rgb.{Rgb}
-use Rattle.payload.specs.declared.answers.ReadRgb.the-variants as Colour
 use Rattle.payload.specs.Answers.{colourOf}
-use Rattle.payload.proofs.Unique.{rgb-one}
+use Rattle.payload.proofs.Unique.{colour-one}
 use Rattle.source.specs.declared.ParserSource.{ParserSource}
 use Rattle.source.specs.declared.answers.ParserError.{ParserError}
 use Rattle.source.specs.declared.answers.ParserError.the-variants.{Eof, InvalidRgb, BufferTooSmall, ReadFailed, BadPlace}
@@ -181,19 +177,13 @@ pub peeked-id-one : {a : Step (Option ℕ)} (r r′ : PeekedId) (b b′ : List �
 peeked-id-one = alike peekedIdAnswer (backTo peekedIdOf P.Refused) peeked-id-back peeked-id-left
 
 -- a colour stands for a value of one case only, so two are compared
-never : {A : Type 0} → _≡_ {A = ℕ} 0 1 → A
-never z = absurd (omega arith)
-
-colour-one : (x x′ : Rgb) → colourOf x ≡ colourOf x′ → x ≡ x′
-colour-one x x′ p = let e = rgb-one (Colour.Got x 0) (Colour.Got x′ 0) (ap (λ (v : Value). found v 0) p) refl in cc
-
 rgb-same : (r r′ : TakenRgb) (b b′ : List ℕ) → rgbAnswer r b ≡ rgbAnswer r′ b′ → r ≡ r′
 rgb-same (C.Got x s) (C.Got x′ s′) b b′ p =
     let v : colourOf x ≡ colourOf x′ = cc in
     let m : s ≡ s′ = cc in
     cc (colour-one x x′ v)
-rgb-same (C.Got x s) (C.Refused y) b b′ p = never (cc)
-rgb-same (C.Refused y) (C.Got x s) b b′ p = never (cc)
+rgb-same (C.Got x s) (C.Refused y) b b′ p = cc
+rgb-same (C.Refused y) (C.Got x s) b b′ p = cc
 rgb-same (C.Refused y) (C.Refused y′) b b′ p =
     ap C.Refused (sym (stop-back y) ∙ ap (backTo (λ _ s. stopOf (F.Eof 0) s) (λ x. x)) p ∙ stop-back y′)
 

@@ -7,7 +7,7 @@ use native.Mathlib.Nat.{not-suc-le-zero, mod-lt}
 use native.Mathlib.Numerals.{add-one, sub-one}
 use native.Mathlib.Omega.{arith}
 use lib.Dec.{ltb, lit<}
-use lib.ListN.{length, drop, getD}
+use lib.ListN.{length, drop, getD, drop-of-length-le}
 use lib.Seq.{drop-cons}
 use borrow.Author.Tests.{lt-ltb, le-ltb, ltb-false}
 use Rattle.form.specs.Numbers.{pick, leBytes}
@@ -18,12 +18,6 @@ use Rattle.text.proofs.Writes.{put-then}
 -- what is left of src
 pub drop-one : (src : List ℕ) (j : ℕ) → j < length src → drop j src ≡ (getD src j 0 ∷ []) ++ drop (j + 1) src
 drop-one src j h = rw (drop-cons src j 0 h, add-one j)
-
-pub drop-all : (src : List ℕ) (j : ℕ) → length src ≤ j → drop j src ≡ []
-drop-all [] zero h = refl
-drop-all [] (suc j) h = refl
-drop-all (x ∷ src) zero h = absurd (omega arith)
-drop-all (x ∷ src) (suc j) h = drop-all src j (omega arith)
 
 -- ---- decimal digits
 
@@ -62,7 +56,7 @@ hex-one src j h = rw (drop-cons src j 0 h, add-one j)
 
 pub hex-all : (src : List ℕ) (j : ℕ) → length src ≤ j → hex (drop j src) ≡ []
 unfolding hex
-hex-all src j h = rw (drop-all src j h)
+hex-all src j h = rw (drop-of-length-le src h)
 
 -- a byte, by its two digits
 pub hex-pair : (b : ℕ) {high low : ℕ} → high ≡ digit (b / 16) → low ≡ digit (b % 16) → hex (b ∷ []) ≡ (high ∷ []) ++ (low ∷ [])

@@ -14,7 +14,7 @@ use Rattle.form.specs.Reading.{num, string, rgb, payload}
 use Rattle.form.proofs.Places.{at-giving, by-id, num-there, token-then}
 use Rattle.lexeme.specs.declared.LexemeId.{LexemeId}
 use Rattle.payload.specs.Answers.{why, idAnswer, textOf, colourOf, alphaOf}
-use Rattle.payload.specs.Compact.{least7, signedBy, compact}
+use Rattle.payload.specs.Compact.{atMost7, signedBy, compact}
 use Rattle.payload.specs.declared.answers.Text.{Text}
 use Rattle.payload.specs.declared.answers.Alpha.{Alpha}
 use Rattle.payload.specs.declared.answers.Alpha.the-variants.{Absent, Given}
@@ -45,7 +45,7 @@ payloadAt p s at′ = placed tokenOf (at (payload p) s at′)
 
 -- a compact number of w bytes
 abbrev pub compactOf : ℕ → Bool → Payload
-compactOf w negative = number (least7 w) (λ n. F.F64 (signedBy negative n))
+compactOf w negative = number (atMost7 w) (λ n. F.F64 (signedBy negative n))
 
 placed-mapped : {A B C : Type 0} (f : A → B) (g : ℕ → B → C) (x : Answer A) → placed g (mapped f x) ≡ placed (λ e a. g e (f a)) x
 unfolding placed mapped
@@ -71,7 +71,7 @@ module _ (s : List ℕ) (p : ℕ) where
   -- of a compact number
   pub compact-from : (w : ℕ) (negative : Bool) {a : Answer ℕ} {b : Answer Token}
       → a ≡ compact w negative s p → b ≡ placed (λ e n. tokenOf e (F.F64 n)) a → b ≡ payloadAt (compactOf w negative) s p
-  compact-from w negative = through-at (least7 w) (signedBy negative) F.F64
+  compact-from w negative = through-at (atMost7 w) (signedBy negative) F.F64
 
   -- of where the text stands
   pub text-at : (f : List ℕ → F.Value) (h : Text → Token) → ((e : ℕ) (t : List ℕ) → tokenOf e (f t) ≡ h (textOf e t))

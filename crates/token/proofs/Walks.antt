@@ -9,6 +9,7 @@ use Rattle.form.specs.Refusals.{Fault, refusalAt}
 use Rattle.form.specs.Readers.{Answer, found, refused, at, further, mapped, placed}
 use Rattle.form.specs.Reading.{token}
 use Rattle.form.specs.Saves.{then, cut, step}
+use Rattle.form.proofs.Never.{never}
 use Rattle.form.proofs.Found.{All, Within, token-in}
 use Rattle.form.proofs.Walking.{from, from-step}
 use Rattle.form.proofs.TextsLast.{Ends, token-ends-at}
@@ -46,7 +47,7 @@ module _ (s : List ℕ) (p : ℕ) where
           let ew : w ≡ v = cc in
           let em : p + m ≡ n = cc in
           rw (← ew, ← em) (read-found r k q)
-      go (refused f) r e k q = let z : _≡_ {A = ℕ} 0 1 = cc in absurd (omega arith)
+      go (refused f) r e k q = never (cc)
 
   -- so does the value of a token that `read_token` answers
   module _ {t : Token} {n : ℕ} (e : tokenAt s p ≡ found t n) where
@@ -67,5 +68,5 @@ module _ (s : List ℕ) (p : ℕ) where
   token-refused h {f} q = from-step s p h ∙ go (token (drop p s)) (sym (token-values s p) ∙ ap (mapped (valueOf s)) q)
     where
       go : (a : Answer Value) → further p a ≡ refused f → step p a (λ i. from s (p + i)) ≡ cut (refusalAt p f)
-      go (found v m) e = let z : _≡_ {A = ℕ} 0 1 = cc in absurd (omega arith)
+      go (found v m) e = cc
       go (refused g) e = ap (λ (x : Fault). cut (refusalAt p x)) (cc)

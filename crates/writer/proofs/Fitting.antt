@@ -1,6 +1,5 @@
 -- What the answer for bytes and a room says of both. Assumes nothing.
 use Prim.Native.Nat.{ℕ, _≤_, _<_}
-use native.Mathlib.Omega.{arith}
 use mathlib.Core.Path.{_≡_, refl}
 use mathlib.Core.Bool.{Bool, true, false}
 use mathlib.Core.List.{List}
@@ -10,10 +9,7 @@ use borrow.Author.Tests.{leb-true, leb-false}
 use Rattle.form.specs.Numbers.{pick}
 use Rattle.form.specs.Refusals.{Refusal, NoRoom}
 use Rattle.form.specs.Writing.{Output, written, unwritten, wrote, declined, outcome, fitted}
-
--- what two different constructors would prove, were they equal
-pub never : {A : Type 0} → _≡_ {A = ℕ} 0 1 → A
-never z = absurd (omega arith)
+use Rattle.form.proofs.Never.{never}
 
 module _ (room : ℕ) (bs : List ℕ) where
   abbrev by : Bool → Output

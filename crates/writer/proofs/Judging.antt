@@ -12,6 +12,7 @@ use denote.Enum.Declared.{tagOf}
 use Rattle.form.specs.Numbers.{pick}
 use Rattle.form.specs.Refusals as R
 use Rattle.form.specs.Writing.{Output, written, unwritten, wrote, outcome, leaves, fitted, unless}
+use Rattle.form.proofs.Never.{never}
 use Rattle.writer.specs.declared.Wrote.{Wrote}
 use Rattle.writer.proofs.Wrote.{the-type}
 use Rattle.writer.specs.declared.Wrote.the-variants.{Written, NotEncodable, NoRoom, BadPlace}
@@ -19,7 +20,7 @@ use Rattle.writer.specs.Writes.{wroteOutcome, Follows, Fitted}
 use Rattle.writer.specs.declared.parts.Parts.{Parts}
 use Rattle.writer.specs.Parts.{spelledBy, misplacedBy, writableBy, writeBy}
 use Rattle.writer.specs.Put.{Put}
-use Rattle.writer.proofs.Fitting.{never, fitted-written}
+use Rattle.writer.proofs.Fitting.{fitted-written}
 use Rattle.writer.proofs.Stores.{put-front}
 
 -- a refusal leaves the output unchanged
@@ -27,9 +28,9 @@ pub refused-leaves : (o : Output) (r : Wrote) (d : List ℕ) → wroteOutcome r 
 unfolding outcome leaves
 refused-leaves (unwritten why) r d e q = refl
 refused-leaves (written bs) (Written n) d e q = absurd (⊎-elim (λ h. omega arith) (⊎-elim (λ h. omega arith) (λ h. omega arith)) q)
-refused-leaves (written bs) (NotEncodable p) d e q = never (cc)
-refused-leaves (written bs) (NoRoom n) d e q = never (cc)
-refused-leaves (written bs) (BadPlace p) d e q = never (cc)
+refused-leaves (written bs) (NotEncodable p) d e q = cc
+refused-leaves (written bs) (NoRoom n) d e q = cc
+refused-leaves (written bs) (BadPlace p) d e q = cc
 
 -- what is written is the spelling, and it fits
 pub written-fits : (room : ℕ) (s : List ℕ) (p : Parts) {r : Wrote} {n : ℕ} → wroteOutcome r ≡ outcome (writeBy room s p) → r ≡ Written n

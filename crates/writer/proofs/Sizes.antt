@@ -10,6 +10,7 @@ use Rattle.payload.specs.declared.answers.Alpha.{Alpha}
 use Rattle.payload.specs.declared.answers.Alpha.the-variants.{Absent, Given}
 use Rattle.payload.specs.declared.answers.Rgb.{Rgb}
 use Rattle.form.proofs.LittleEndian.{length-bytes}
+use Rattle.form.proofs.ReadsBack.{channel-length}
 use Rattle.writer.specs.Parts.{idNumber, idText, colourEnd, channels, idColour}
 
 pub number-size : (i w n : ℕ) → length (idNumber i w n) ≡ 2 + w
@@ -17,10 +18,6 @@ number-size i w n = simp (length-append, length-bytes)
 
 pub text-size : (i : ℕ) (t : List ℕ) → length (idText i t) ≡ 4 + length t
 text-size i t = simp (length-append, length-bytes) (omega arith)
-
-pub channel-size : (n : ℕ) → length (spelledChannel n) ≡ 6
-unfolding spelledChannel leBytes
-channel-size n = refl
 
 -- a colour's end with and without alpha
 abbrev pub endSize : Alpha → ℕ
@@ -38,7 +35,7 @@ channels-size c =
     let l = length-append (spelledChannel (c .b)) (colourEnd (c .a)) in
     let m = length-append (spelledChannel (c .g)) (spelledChannel (c .b) ++ colourEnd (c .a)) in
     length-append (spelledChannel (c .r)) (spelledChannel (c .g) ++ (spelledChannel (c .b) ++ colourEnd (c .a)))
-    ∙ omega (arith, channel-size (c .r), channel-size (c .g), channel-size (c .b))
+    ∙ omega (arith, channel-length (c .r), channel-length (c .g), channel-length (c .b))
 
 pub colour-size : (c : Rgb) → length (idColour c) ≡ 22 + endSize (c .a)
 unfolding leBytes

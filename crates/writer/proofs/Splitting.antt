@@ -5,8 +5,7 @@ use mathlib.Core.Path.{_≡_, refl}
 use mathlib.Core.Bool.{Bool, true, false}
 use mathlib.Core.Option.{none, some}
 use mathlib.Core.List.{List}
-use lib.ListN.{length, take, drop, length-drop}
-use lib.Seq.{length-take-le}
+use lib.ListN.{length, take, drop}
 use lib.Dec.{ltb}
 use borrow.Author.Tests.{leb-true}
 use mir.Syntax.{w32, w64}
@@ -18,6 +17,8 @@ use Rattle.form.specs.Ids.{idOf, findId, alike, sample}
 use Rattle.form.specs.Spelling.{tag, body, spell, writable, bit}
 use Rattle.form.specs.Refusals.{NotEncodable, BadPlace}
 use Rattle.form.specs.Writing.{Output, unwritten, fitted, unless, write}
+use Rattle.form.proofs.Never.{never}
+use Rattle.form.proofs.Runs.{part-length}
 use Rattle.payload.specs.declared.answers.Text.{Text as Place}
 use Rattle.token.specs.declared.Token.{Token}
 use Rattle.token.specs.declared.Token.the-variants as T
@@ -28,15 +29,13 @@ use Rattle.writer.specs.Writes.{misplaced, writeToken}
 use Rattle.writer.specs.declared.parts.Parts.{Parts}
 use Rattle.writer.specs.declared.parts.Parts.the-variants.{Number, Text, Lookup, Rgb, Id}
 use Rattle.writer.specs.Parts.{idText, spelledBy, misplacedBy, writableBy, writeBy, Splits}
-use Rattle.writer.proofs.Fitting.{never}
 
 -- a text that lies within the bytes is as long as it says
 text-length : (s : List ℕ) (t : Place) → lies s t ≡ true → length (take (t .len) (drop (t .start) s)) ≡ t .len
-text-length s t h =
-    length-take-le (t .len) (drop (t .start) s) (simp length-drop (omega (arith, leb-true (t .start + t .len) (length s) h)))
+text-length s t h = part-length s (t .start) (t .len) (omega (arith, leb-true (t .start + t .len) (length s) h))
 
-pub part-length : (s : List ℕ) (t : Place) → placeOf s t ≡ none → length (partOf s t) ≡ t .len
-part-length s t q = go (lies s t) refl q
+pub placed-length : (s : List ℕ) (t : Place) → placeOf s t ≡ none → length (partOf s t) ≡ t .len
+placed-length s t q = go (lies s t) refl q
   where
     go : (b : Bool) → lies s t ≡ b → pick b none (some (BadPlace (t .start))) ≡ none → length (partOf s t) ≡ t .len
     go true h q = rw h (text-length s t h)

@@ -6,7 +6,7 @@ use lib.Dec.{lit≤}
 use Rattle.form.specs.Values as F
 use Rattle.form.specs.Table.{after, orPlain, find, entries, table}
 use Rattle.form.specs.Fast.{front, over, stepBy}
-use Rattle.form.proofs.Lookups.{unquoted-at, lookup1-at, lookup2-at, lookup3-at, lookup4-at, range-from, compact-at, negated-at, plain-below, plain-above}
+use Rattle.form.proofs.Lookups.{unquoted-at, lookup1-at, lookup2-at, lookup3-at, lookup4-at, range-from, compact-at, negated-in, plain-below, plain-above}
 use Rattle.lexeme.specs.declared.TokenKind.the-variants.{Open, Close, Equal, U32, U64, I32, Bool, Quoted, Unquoted, F32, F64, I64}
 use Rattle.fast.proofs.Laws.{at-most-7, narrow, Ready, copy-arm, lookup-arm, compact-arm, negated-arm, text-arm, alone-arm, zeros-held, id-arm, arm-by}
 use borrow.Author.Needs.{needs}
@@ -169,7 +169,7 @@ returns-19 c = arm-by _ _ (c .compact .ensures) (compact-at _ (c .before .before
 
 returns-20 : tie.Need-returns-20
 unfolding entries table
-returns-20 c = arm-by _ _ (c .compact2 .ensures) (negated-at _ (c .before .before .if2 .left) (c .before .if3 .taken)) (negated-arm (ready (c .before .before .before .before .before)) _)
+returns-20 c = arm-by _ _ (c .compact2 .ensures) (negated-in _ (c .before .before .if2 .left) (c .before .if3 .taken)) (negated-arm (ready (c .before .before .before .before .before)) _)
 
 returns-21 : tie.Need-returns-21
 unfolding entries table

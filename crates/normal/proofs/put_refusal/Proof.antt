@@ -8,7 +8,6 @@ use types.Run.{OneOf}
 use borrow.Author.Needs.{needs}
 use Rattle.form.specs.Refusals.{refusalNumber, refusalValues}
 use Rattle.form.specs.Listing.{refusalWord, errorLine}
-use Rattle.text.specs.Put.{Put}
 use Rattle.normaliser.specs.declared.Normalised.{Normalised}
 use Rattle.normaliser.specs.declared.Normalised.the-variants.{Written, Eof, InvalidRgb, NotEncodable, NoRoom, TooLong}
 use Rattle.normaliser.proofs.Normalised.{the-type}

@@ -2,9 +2,9 @@
 use borrow.Author.Needs.{needs}
 use Prim.Native.Nat.{_-_, _≤_}
 use native.Mathlib.Omega.{arith}
-use lib.ListN.{length, drop}
+use lib.ListN.{length, drop, drop-of-length-le}
 use Rattle.text.proofs.Writes.{Left, left-all, left-step, left-done}
-use Rattle.text.proofs.Words.{drop-one, drop-all}
+use Rattle.text.proofs.Words.{drop-one}
 use Rattle.text.proofs.put_all.Statement.{statement}
 use Rattle.text.proofs.put_all.Tie as tie
 
@@ -40,7 +40,7 @@ same-length : tie.Need-same-length Inv-loop μ-loop
 same-length c = c .before .loop .inv .1 .same
 
 returns : tie.Need-returns Inv-loop μ-loop
-returns c = left-done (c .before .loop .inv .1) (drop-all _ _ (c .loop-test .left))
+returns c = left-done (c .before .loop .inv .1) (drop-of-length-le _ (c .loop-test .left))
 
 pub put-all-spec : {M : Type 1} → statement M
 put-all-spec =

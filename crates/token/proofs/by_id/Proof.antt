@@ -8,7 +8,7 @@ use mir.Val.{toZ}
 use Rattle.form.specs.Values as F
 use native.Mathlib.Omega.{arith}
 use Rattle.form.specs.Table.{table, entries, find, orPlain, after}
-use Rattle.form.proofs.Lookups.{unquoted-at, lookup1-at, lookup2-at, lookup3-at, lookup4-at, compact-at, negated-at, plain-below, plain-above, range-from}
+use Rattle.form.proofs.Lookups.{unquoted-at, lookup1-at, lookup2-at, lookup3-at, lookup4-at, compact-at, negated-in, plain-below, plain-above, range-from}
 use Rattle.token.specs.Tokens.{tokenOf}
 use Rattle.token.specs.declared.Token.the-variants as T
 use Rattle.token.proofs.Laws.{by-entry, number-at, through-at, text-at, colour-at, compact-from, nothing-at, empty-at, compact-is}
@@ -274,7 +274,7 @@ returns-20 : tie.Need-returns-20
 unfolding entries table tokenOf
 returns-20 c =
     let a = c .before .before .before .before .before .before .before .before .args in
-    by-entry _ _ (negated-at _ (c .before .before .before .before .if2 .left) (c .before .before .before .if3 .taken) ∙ compact-is _ _ true (c .before .before .before .if3 .taken))
+    by-entry _ _ (negated-in _ (c .before .before .before .before .if2 .left) (c .before .before .before .if3 .taken) ∙ compact-is _ _ true (c .before .before .before .if3 .taken))
     (compact-from (a .bytes .now) (a .next) (a .id .0 - 0x0d4e) true (rw (part-to-end (a .bytes .now) 0) at (c .before .read-compact-f642 .ensures)) (c .f64-token3 .ensures))
 
 returns-21 : tie.Need-returns-21

@@ -12,7 +12,7 @@ use Rattle.payload.specs.Texts.{partOf}
 use Rattle.token.specs.Texts.{placeOf, placeAnswer}
 use Rattle.writer.specs.Parts.{spelledBy, misplacedBy, writableBy, writeBy}
 use Rattle.writer.proofs.Sizes.{text-size}
-use Rattle.writer.proofs.Splitting.{part-length}
+use Rattle.writer.proofs.Splitting.{placed-length}
 use Rattle.writer.proofs.judge_text.Statement.{statement}
 use Rattle.writer.proofs.judge_text.Tie as tie
 
@@ -52,7 +52,7 @@ returns-3 c =
     let s = now (a .bytes) in
     let q : placeOf s (a .t) ≡ none = sym (c .before .before .before .before .text .ensures) ∙ ap placeAnswer (c .before .before .enum-told .given .1) in
     rw (q, lt-ltb (a .t .len) 65536 (omega arith))
-    (c .fit .ensures _ (text-size (a .id .0) (partOf s (a .t)) ∙ ap (λ n. 4 + n) (part-length s (a .t) q)))
+    (c .fit .ensures _ (text-size (a .id .0) (partOf s (a .t)) ∙ ap (λ n. 4 + n) (placed-length s (a .t) q)))
 
 pub judge-text-spec : {M : Type 1} → statement M
 judge-text-spec =

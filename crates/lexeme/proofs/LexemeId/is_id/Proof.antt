@@ -6,6 +6,7 @@ use lib.Dec.{eqb}
 use Rattle.form.proofs.Lookups.{arm}
 use Rattle.lexeme.proofs.Laws.{isId, id-plain}
 use borrow.Author.Needs.{needs}
+use Rattle.lexeme.specs.Kinds.{kindNumber}
 use Rattle.lexeme.specs.declared.TokenKind.{TokenKind}
 use Rattle.lexeme.specs.declared.TokenKind.the-variants.{Open, Close, Equal, U32, U64, I32, Bool as BoolKind, Quoted, Unquoted, F32, F64, Rgb, I64, Lookup, Id}
 use Rattle.lexeme.proofs.TokenKind.{the-type}
@@ -13,23 +14,23 @@ use denote.Enum.Declared.{tagOf}
 use Rattle.lexeme.proofs.LexemeId.is_id.Statement.{statement}
 use Rattle.lexeme.proofs.LexemeId.is_id.Tie as tie
 
--- a kind is `Id` where its tag is the last
-by-tag : (k : TokenKind) → isId k ≡ eqb (tagOf the-type k) 14
-by-tag Open = refl
-by-tag Close = refl
-by-tag Equal = refl
-by-tag U32 = refl
-by-tag U64 = refl
-by-tag I32 = refl
-by-tag BoolKind = refl
-by-tag Quoted = refl
-by-tag Unquoted = refl
-by-tag F32 = refl
-by-tag F64 = refl
-by-tag Rgb = refl
-by-tag I64 = refl
-by-tag Lookup = refl
-by-tag Id = refl
+-- a kind's tag is its number
+tag-number : (k : TokenKind) → tagOf the-type k ≡ kindNumber k
+tag-number Open = refl
+tag-number Close = refl
+tag-number Equal = refl
+tag-number U32 = refl
+tag-number U64 = refl
+tag-number I32 = refl
+tag-number BoolKind = refl
+tag-number Quoted = refl
+tag-number Unquoted = refl
+tag-number F32 = refl
+tag-number F64 = refl
+tag-number Rgb = refl
+tag-number I64 = refl
+tag-number Lookup = refl
+tag-number Id = refl
 
 into-kind-requires : tie.Need-into-kind-requires
 into-kind-requires c κs = search needs
@@ -41,7 +42,7 @@ returns : tie.Need-returns
 returns c = ap isId (sym (c .enum-told .given .1) ∙ c .before .before .into-kind .ensures) ∙ id-plain _
 
 returns-2 : tie.Need-returns-2
-returns-2 c = sym (sym (id-plain _) ∙ ap isId (sym (c .before .into-kind .ensures)) ∙ by-tag (c .before .into-kind .result) ∙ arm (λ t. eqb t 14) (0 ∷ 1 ∷ 2 ∷ 3 ∷ 4 ∷ 5 ∷ 6 ∷ 7 ∷ 8 ∷ 9 ∷ 10 ∷ 11 ∷ 12 ∷ 13 ∷ []) (refl, (refl, (refl, (refl, (refl, (refl, (refl, (refl, (refl, (refl, (refl, (refl, (refl, (refl, tt)))))))))))))) (c .match .keys2))
+returns-2 c = sym (sym (id-plain _) ∙ ap isId (sym (c .before .into-kind .ensures)) ∙ ap (λ t. eqb t 14) (sym (tag-number (c .before .into-kind .result))) ∙ arm (λ t. eqb t 14) (0 ∷ 1 ∷ 2 ∷ 3 ∷ 4 ∷ 5 ∷ 6 ∷ 7 ∷ 8 ∷ 9 ∷ 10 ∷ 11 ∷ 12 ∷ 13 ∷ []) (refl, (refl, (refl, (refl, (refl, (refl, (refl, (refl, (refl, (refl, (refl, (refl, (refl, (refl, tt)))))))))))))) (c .match .keys2))
 
 pub is-id-spec : {M : Type 1} → statement M
 is-id-spec = tie.close (tie.spec into-kind-requires enum-told returns returns-2)

@@ -2,7 +2,7 @@
 use mathlib.Core.Path.{_≡_}
 use mir.Syntax.{w32, w64}
 use mir.Val.{SFits, toZ, ofZ}
-use Rattle.listing.proofs.Widen.{widens, widened}
+use Rattle.form.proofs.Signs.{widens, widened}
 use borrow.Author.Needs.{needs}
 use Rattle.listing.proofs.line.parts_of.Statement.{statement}
 use Rattle.listing.proofs.line.parts_of.Tie as tie
@@ -44,7 +44,7 @@ enum-known-t-3 : tie.Need-enum-known-t-3
 enum-known-t-3 c = search needs
 
 cast-t48 : tie.Need-cast-t48
-cast-t48 c = widens {w = w32} {z = c .before .before .before .t3 .given .0 .0} tt (search needs)
+cast-t48 c = widens {w = w32} {x = c .before .before .before .t3 .given .0 .0} tt (search needs)
 
 named-requires-6 : tie.Need-named-requires-6
 named-requires-6 c κs = search needs
@@ -130,7 +130,7 @@ returns-5 c = rw (c .before .before .before .before .t2 .given .1) (c .named5 .e
 returns-6 : tie.Need-returns-6
 returns-6 c =
     let f : SFits w32 (c .before .before .before .before .t3 .given .0 .0) = search needs in
-    rw (c .before .before .before .before .t3 .given .1, ← widened {w = w32} {z = c .before .before .before .before .t3 .given .0 .0} tt f) (c .named6 .ensures)
+    rw (c .before .before .before .before .t3 .given .1, ← widened {w = w32} {x = c .before .before .before .before .t3 .given .0 .0} tt f) (c .named6 .ensures)
 
 returns-7 : tie.Need-returns-7
 returns-7 c = rw (c .before .before .before .before .t4 .given .1) (c .named7 .ensures)

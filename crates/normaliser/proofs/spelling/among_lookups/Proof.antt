@@ -5,7 +5,7 @@ use native.Mathlib.Omega.{arith}
 use mathlib.Core.Path.{_∙_}
 use mathlib.Core.Bool.{true, false}
 use mathlib.Core.Logic.{inr}
-use Rattle.form.proofs.Lookups.{lookup1-at, lookup2-at, lookup3-at, lookup4-at, compact-in, negated-at}
+use Rattle.form.proofs.Lookups.{lookup1-at, lookup2-at, lookup3-at, lookup4-at, compact-in, negated-in}
 use Rattle.form.proofs.Standing.{of-one, Kept, threes, threes-kept}
 use Rattle.token.proofs.Laws.{compact-is}
 use Rattle.payload.specs.Compact.{signedBy}
@@ -74,7 +74,7 @@ returns-3 : tie.Need-returns-3
 returns-3 c p e =
     let a = c .before .before .before .before .before .before .before .args in
     let h : a .n < 0x0d56 = omega (arith, c .before .before .if3 .taken) in
-    float-arm (a .bytes .now) (c .before .before .before .before .before .before .shared-slice-known .given) p e (signedBy true) (negated-at (a .n) (c .before .before .before .if2 .left) h ∙ compact-is (a .n) 0x0d4e true h) (c .float2 .result) (rw (c .before .read-compact-f642 .ensures) at (c .float2 .ensures))
+    float-arm (a .bytes .now) (c .before .before .before .before .before .before .shared-slice-known .given) p e (signedBy true) (negated-in (a .n) (c .before .before .before .if2 .left) h ∙ compact-is (a .n) 0x0d4e true h) (c .float2 .result) (rw (c .before .read-compact-f642 .ensures) at (c .float2 .ensures))
 
 returns-4 : tie.Need-returns-4
 returns-4 c p e =

@@ -3,7 +3,7 @@ use native.Mathlib.Omega.{arith}
 use mathlib.Core.Path.{sym, _∙_}
 use Rattle.payload.proofs.Laws.{gotOf}
 use Rattle.skip.specs.Skips.{passedAnswer}
-use Rattle.skip.proofs.Passing.{passed-on}
+use Rattle.form.proofs.SkipSteps.{passing-on}
 use Rattle.skip.proofs.Turns.{cut-short, deeper, out, higher, onward, over-at}
 use borrow.Author.Needs.{needs}
 use Rattle.skip.proofs.walk.over.Statement.{statement}
@@ -46,7 +46,7 @@ returns-6 : tie.Need-returns-6
 returns-6 c =
     let f = gotOf passedAnswer (c .before .before .before .before .skip-payload .ensures) (c .before .before .passed .given .1) in
     let m = c .before .before .before .before .before .match .rest in
-    let l = passed-on _ _ _ f in
+    let l = passing-on _ _ _ f in
     record { answer = sym (onward _ _ _ _ (m .0 .1) (m .1) f); moves = (l, omega arith, omega arith) }
 
 pub over-spec : {M : Type 1} → statement M
