@@ -13,60 +13,6 @@ use borrow.Author.Needs.{needs}
 use Rattle.fast.proofs.by_id.Statement.{statement}
 use Rattle.fast.proofs.by_id.Tie as tie
 
-alone-requires : tie.Need-alone-requires
-alone-requires c κs = search needs
-
-alone-requires-2 : tie.Need-alone-requires-2
-alone-requires-2 c κs = search needs
-
-alone-requires-3 : tie.Need-alone-requires-3
-alone-requires-3 c κs = search needs
-
-copy-requires : tie.Need-copy-requires
-copy-requires c κs = search needs
-
-copy-requires-2 : tie.Need-copy-requires-2
-copy-requires-2 c κs = search needs
-
-copy-requires-3 : tie.Need-copy-requires-3
-copy-requires-3 c κs = search needs
-
-copy-requires-4 : tie.Need-copy-requires-4
-copy-requires-4 c κs = search needs
-
-copy-requires-5 : tie.Need-copy-requires-5
-copy-requires-5 c κs = search needs
-
-copy-requires-6 : tie.Need-copy-requires-6
-copy-requires-6 c κs = search needs
-
-copy-requires-7 : tie.Need-copy-requires-7
-copy-requires-7 c κs = search needs
-
-string-requires : tie.Need-string-requires
-string-requires c κs = search needs
-
-string-requires-2 : tie.Need-string-requires-2
-string-requires-2 c κs = search needs
-
-alone-requires-4 : tie.Need-alone-requires-4
-alone-requires-4 c κs = search needs
-
-slow-requires : tie.Need-slow-requires
-slow-requires c κs = search needs
-
-lookup-requires : tie.Need-lookup-requires
-lookup-requires c κs = search needs
-
-lookup-requires-2 : tie.Need-lookup-requires-2
-lookup-requires-2 c κs = search needs
-
-lookup-requires-3 : tie.Need-lookup-requires-3
-lookup-requires-3 c κs = search needs
-
-lookup-requires-4 : tie.Need-lookup-requires-4
-lookup-requires-4 c κs = search needs
-
 sub-width : tie.Need-sub-width
 unfolding entries table
 sub-width c = range-from _ (c .before .before .match .rest) (c .before .if1 .left)
@@ -77,17 +23,11 @@ cast-width c = narrow _ 0x0d47 (c .if2 .taken)
 compact-requires : tie.Need-compact-requires
 compact-requires c κs = (at-most-7 _ 0x0d47 (c .if2 .taken), c .before .before .before .before .pre .0)
 
-sub-width-2 : tie.Need-sub-width-2
-sub-width-2 c = search needs
-
 cast-width-2 : tie.Need-cast-width-2
 cast-width-2 c = narrow _ 0x0d4e (c .if3 .taken)
 
 compact-requires-2 : tie.Need-compact-requires-2
 compact-requires-2 c κs = (at-most-7 _ 0x0d4e (c .if3 .taken), c .before .before .before .before .before .pre .0)
-
-named-requires : tie.Need-named-requires
-named-requires c κs = search needs
 
 -- what every arm knows of the window and of what is held
 ready : (c : tie.After-shared-slice-known) → Ready (c .before .args .window .now) (c .before .args .held)
@@ -179,31 +119,31 @@ pub by-id-spec : {M : Type 1} → statement M
 by-id-spec =
     tie.close
     (tie.spec
-    alone-requires
-    alone-requires-2
-    alone-requires-3
-    copy-requires
-    copy-requires-2
-    copy-requires-3
-    copy-requires-4
-    copy-requires-5
-    copy-requires-6
-    copy-requires-7
-    string-requires
-    string-requires-2
-    alone-requires-4
-    slow-requires
-    lookup-requires
-    lookup-requires-2
-    lookup-requires-3
-    lookup-requires-4
+    (λ c κs. search needs)
+    (λ c κs. search needs)
+    (λ c κs. search needs)
+    (λ c κs. search needs)
+    (λ c κs. search needs)
+    (λ c κs. search needs)
+    (λ c κs. search needs)
+    (λ c κs. search needs)
+    (λ c κs. search needs)
+    (λ c κs. search needs)
+    (λ c κs. search needs)
+    (λ c κs. search needs)
+    (λ c κs. search needs)
+    (λ c κs. search needs)
+    (λ c κs. search needs)
+    (λ c κs. search needs)
+    (λ c κs. search needs)
+    (λ c κs. search needs)
     sub-width
     cast-width
     compact-requires
-    sub-width-2
+    (λ c. search needs)
     cast-width-2
     compact-requires-2
-    named-requires
+    (λ c κs. search needs)
     returns
     returns-2
     returns-3

@@ -6,14 +6,8 @@ use Rattle.fast.specs.Steps.{aloneOf}
 use Rattle.fast.proofs.named.Statement.{statement}
 use Rattle.fast.proofs.named.Tie as tie
 
-hold-requires : tie.Need-hold-requires
-hold-requires c κs = search needs
-
-alone-requires : tie.Need-alone-requires
-alone-requires c κs = search needs
-
 returns : tie.Need-returns
 returns c = c .alone .ensures ∙ ap (aloneOf Id) (c .before .hold .ensures)
 
 pub named-spec : {M : Type 1} → statement M
-named-spec = tie.close (tie.spec hold-requires alone-requires returns)
+named-spec = tie.close (tie.spec (λ c κs. search needs) (λ c κs. search needs) returns)

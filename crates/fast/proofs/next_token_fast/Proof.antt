@@ -11,24 +11,9 @@ use borrow.Author.Needs.{needs}
 use Rattle.fast.proofs.next_token_fast.Statement.{statement}
 use Rattle.fast.proofs.next_token_fast.Tie as tie
 
-slow-requires : tie.Need-slow-requires
-slow-requires c κs = search needs
-
 returns : tie.Need-returns
 unfolding fastStep
 returns c = rw (c .slow .ensures, lt-leb _ _ (c .before .if1 .taken))
-
-read-id-requires : tie.Need-read-id-requires
-read-id-requires c κs = search needs
-
-enum-known-r : tie.Need-enum-known-r
-enum-known-r c = search needs
-
-enum-told : tie.Need-enum-told
-enum-told c = search needs
-
-slow-requires-2 : tie.Need-slow-requires-2
-slow-requires-2 c κs = search needs
 
 returns-2 : tie.Need-returns-2
 returns-2 c = id-never (c .before .before .before .before .before .before .args .window .now) (c .before .before .before .before .if1 .left) (gotOf idAnswer (c .before .before .before .read-id .ensures) (c .before .enum-told .given .1))
@@ -49,4 +34,4 @@ returns-3 c =
 pub next-token-fast-spec : {M : Type 1} → statement M
 next-token-fast-spec =
     tie.close
-    (tie.spec slow-requires returns read-id-requires enum-known-r enum-told slow-requires-2 returns-2 by-id-requires returns-3)
+    (tie.spec (λ c κs. search needs) returns (λ c κs. search needs) (λ c. search needs) (λ c. search needs) (λ c κs. search needs) returns-2 by-id-requires returns-3)

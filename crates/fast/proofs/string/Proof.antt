@@ -8,27 +8,12 @@ use borrow.Author.Needs.{needs}
 use Rattle.fast.proofs.string.Statement.{statement}
 use Rattle.fast.proofs.string.Tie as tie
 
-read-string-requires : tie.Need-read-string-requires
-read-string-requires c κs = search needs
-
-enum-known-r : tie.Need-enum-known-r
-enum-known-r c = search needs
-
-enum-told : tie.Need-enum-told
-enum-told c = search needs
-
-slow-requires : tie.Need-slow-requires
-slow-requires c κs = search needs
-
 returns : tie.Need-returns
 returns c =
     let a = c .before .before .before .before .before in
     c .slow .ensures
     ∙ text-slow (a .args .window .now) (a .pre) (a .args .kind) (a .args .held)
     (gotOf textAnswer (c .before .before .before .read-string .ensures) (c .before .enum-told .given .1))
-
-hold-requires : tie.Need-hold-requires
-hold-requires c κs = search needs
 
 add-len : tie.Need-add-len
 add-len c =
@@ -45,4 +30,4 @@ returns-2 c =
 pub string-spec : {M : Type 1} → statement M
 string-spec =
     tie.close
-    (tie.spec read-string-requires enum-known-r enum-told slow-requires returns hold-requires add-len returns-2)
+    (tie.spec (λ c κs. search needs) (λ c. search needs) (λ c. search needs) (λ c κs. search needs) returns (λ c κs. search needs) add-len returns-2)

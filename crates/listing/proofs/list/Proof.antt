@@ -20,18 +20,6 @@ returns c =
     let a = c .before .before .before .args in
     rw (too-long (a .bytes .now) (length (a .out .now)) (c .if1 .taken)) (refl, refl)
 
-slice-relend-prefix-put-listing : tie.Need-slice-relend-prefix-put-listing
-slice-relend-prefix-put-listing c = search needs
-
-slice-aggregate-put-listing : tie.Need-slice-aggregate-put-listing
-slice-aggregate-put-listing c = search needs
-
-put-listing-requires : tie.Need-put-listing-requires
-put-listing-requires c κs = search needs
-
-same-length : tie.Need-same-length
-same-length c = search needs
-
 returns-2 : tie.Need-returns-2
 unfolding outcome leaves
 returns-2 c =
@@ -44,12 +32,6 @@ returns-2 c =
     let h = c .before .before .before .before .before .if1 .left in
     let n = first .ensures .next in
     rw (lacks s room b h n (rw e at (c .if2 .taken))) (refl, e)
-
-put-listing-requires-2 : tie.Need-put-listing-requires-2
-put-listing-requires-2 c κs = search needs
-
-same-length-2 : tie.Need-same-length-2
-same-length-2 c = search needs
 
 returns-3 : tie.Need-returns-3
 unfolding outcome leaves
@@ -72,11 +54,11 @@ list-spec =
     tie.close
     (tie.spec
     returns
-    slice-relend-prefix-put-listing
-    slice-aggregate-put-listing
-    put-listing-requires
-    same-length
+    (λ c. search needs)
+    (λ c. search needs)
+    (λ c κs. search needs)
+    (λ c. search needs)
     returns-2
-    put-listing-requires-2
-    same-length-2
+    (λ c κs. search needs)
+    (λ c. search needs)
     returns-3)

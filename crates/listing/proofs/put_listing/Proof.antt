@@ -24,28 +24,10 @@ Inv-loop out₀ bytes at₀ end₀ tally₀ out at end tally =
 abbrev μ-loop : tie.MeasureT-loop
 μ-loop out₀ bytes at₀ end₀ tally₀ out at end tally = length bytes - at
 
-new-requires : tie.Need-new-requires Inv-loop μ-loop
-new-requires c κs = search needs
-
 loop-holds : tie.Need-loop-holds Inv-loop μ-loop
 loop-holds c =
     let s = c .before .before .before .args .bytes .now in
     rw (c .new .ensures) (omega arith, omega arith, sound-none, rw (← rest-all s) (left-all _ _ _ (omega arith)))
-
-read-token-requires : tie.Need-read-token-requires Inv-loop μ-loop
-read-token-requires c κs = search needs
-
-enum-known-r : tie.Need-enum-known-r Inv-loop μ-loop
-enum-known-r c = search needs
-
-enum-told : tie.Need-enum-told Inv-loop μ-loop
-enum-told c = search needs
-
-refusal-requires : tie.Need-refusal-requires Inv-loop μ-loop
-refusal-requires c κs = search needs
-
-put-refusal-requires : tie.Need-put-refusal-requires Inv-loop μ-loop
-put-refusal-requires c κs = search needs
 
 same-length : tie.Need-same-length Inv-loop μ-loop
 same-length c = c .before .before .put-refusal .ensures .same ∙ c .before .before .before .before .before .before .before .before .before .loop .inv .3 .same
@@ -57,9 +39,6 @@ returns c =
     let h = c .before .before .before .before .before .before .before .before .loop-test .taken in
     let e = elseOf tokenAnswer (c .before .before .before .before .before .before .before .read-token .ensures) (c .before .before .before .before .before .enum-told .given .1) (c .before .before .before .refusal .ensures) refl in
     left-last (l .inv .3) (c .before .before .put-refusal .ensures) (rest-refused s (l .at) (l .tally) (token-refused s (l .at) h e))
-
-put-line-requires : tie.Need-put-line-requires Inv-loop μ-loop
-put-line-requires c κs = search needs
 
 after-requires : tie.Need-after-requires Inv-loop μ-loop
 after-requires c κs =
@@ -82,9 +61,6 @@ loop-again c =
     let n : c .after .result .tokens ≡ l .tally .tokens + 1 = ap (λ (x : Tally). x .tokens) (a s) in
     (r .there, omega (arith, l .inv .1, r .on), rw (a s) (sound-step (l .tally) v (l .inv .2)), left-step _ (l .inv .3) (c .before .before .before .put-line .ensures) (rest-token s (l .at) (l .tally) e a))
 
-put-end-requires : tie.Need-put-end-requires Inv-loop μ-loop
-put-end-requires c κs = search needs
-
 same-length-2 : tie.Need-same-length-2 Inv-loop μ-loop
 same-length-2 c = c .before .before .put-end .ensures .same ∙ c .before .before .before .before .before .loop .inv .3 .same
 
@@ -99,19 +75,19 @@ put-listing-spec =
     (tie.spec
     Inv-loop
     μ-loop
-    new-requires
+    (λ c κs. search needs)
     loop-holds
-    read-token-requires
-    enum-known-r
-    enum-told
-    refusal-requires
-    put-refusal-requires
+    (λ c κs. search needs)
+    (λ c. search needs)
+    (λ c. search needs)
+    (λ c κs. search needs)
+    (λ c κs. search needs)
     same-length
     returns
-    put-line-requires
+    (λ c κs. search needs)
     after-requires
     loop-less
     loop-again
-    put-end-requires
+    (λ c κs. search needs)
     same-length-2
     returns-2)

@@ -24,49 +24,13 @@ unlined (NotEncodable p) q = absurd (⊎-elim (λ h. omega arith) (⊎-elim (λ 
 unlined (NoRoom n) q = refl
 unlined (TooLong n) q = refl
 
-enum-known-r : tie.Need-enum-known-r
-enum-known-r c = search needs
-
-slice-aggregate-put-error : tie.Need-slice-aggregate-put-error
-slice-aggregate-put-error c = search needs
-
-put-error-requires : tie.Need-put-error-requires
-put-error-requires c κs = search needs
-
-enum-known-r-2 : tie.Need-enum-known-r-2
-enum-known-r-2 c = search needs
-
-slice-aggregate-put-error-2 : tie.Need-slice-aggregate-put-error-2
-slice-aggregate-put-error-2 c = search needs
-
-put-error-requires-2 : tie.Need-put-error-requires-2
-put-error-requires-2 c κs = search needs
-
-enum-known-r-3 : tie.Need-enum-known-r-3
-enum-known-r-3 c = search needs
-
-slice-aggregate-put-error-3 : tie.Need-slice-aggregate-put-error-3
-slice-aggregate-put-error-3 c = search needs
-
-put-error-requires-3 : tie.Need-put-error-requires-3
-put-error-requires-3 c κs = search needs
-
-same-length : tie.Need-same-length
-same-length c = search needs
-
 returns : tie.Need-returns
 unfolding errorLine refusalWord refusalNumber refusalValues
 returns c = rw (c .before .before .before .before .before .before .r .given .1) (c .before .before .put-error .ensures)
 
-same-length-2 : tie.Need-same-length-2
-same-length-2 c = search needs
-
 returns-2 : tie.Need-returns-2
 unfolding errorLine refusalWord refusalNumber refusalValues
 returns-2 c = rw (c .before .before .before .before .before .before .r2 .given .1) (c .before .before .put-error2 .ensures)
-
-same-length-3 : tie.Need-same-length-3
-same-length-3 c = search needs
 
 returns-3 : tie.Need-returns-3
 unfolding errorLine refusalWord refusalNumber refusalValues
@@ -79,19 +43,19 @@ pub put-refusal-spec : {M : Type 1} → statement M
 put-refusal-spec =
     tie.close
     (tie.spec
-    enum-known-r
-    slice-aggregate-put-error
-    put-error-requires
-    enum-known-r-2
-    slice-aggregate-put-error-2
-    put-error-requires-2
-    enum-known-r-3
-    slice-aggregate-put-error-3
-    put-error-requires-3
-    same-length
+    (λ c. search needs)
+    (λ c. search needs)
+    (λ c κs. search needs)
+    (λ c. search needs)
+    (λ c. search needs)
+    (λ c κs. search needs)
+    (λ c. search needs)
+    (λ c. search needs)
+    (λ c κs. search needs)
+    (λ c. search needs)
     returns
-    same-length-2
+    (λ c. search needs)
     returns-2
-    same-length-3
+    (λ c. search needs)
     returns-3
     returns-4)

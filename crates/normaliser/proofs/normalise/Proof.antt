@@ -19,30 +19,12 @@ returns c =
     let a = c .before .before .before .args in
     rw (too-long (length (now (a .out))) (now (a .bytes)) (c .if1 .taken)) (record { answer = refl; output = refl })
 
-slice-relend-prefix-pass : tie.Need-slice-relend-prefix-pass
-slice-relend-prefix-pass c = search needs
-
-slice-aggregate-pass : tie.Need-slice-aggregate-pass
-slice-aggregate-pass c = search needs
-
-pass-requires : tie.Need-pass-requires
-pass-requires c κs = search needs
-
-enum-known-measured : tie.Need-enum-known-measured
-enum-known-measured c = search needs
-
-same-length : tie.Need-same-length
-same-length c = search needs
-
 returns-2 : tie.Need-returns-2
 returns-2 c =
     let a = c .before .before .before .before .before .before .before .before .args in
     let e : c .before .before .before .pass .last .1 .0 ++ now (a .out) ≡ now (a .out) = none-before (c .before .before .before .pass .last .1 .0) (now (a .out)) (c .before .before .out .given .0) in
     let m = measured-refused (length (now (a .out))) (now (a .bytes)) (c .before .before .before .before .before .if1 .left) (c .before .before .before .pass .result) (now (a .out)) (c .before .before .before .pass .ensures .answer) (c .match .keys2) in
     record { answer = m .answer; output = e ∙ m .output }
-
-same-length-2 : tie.Need-same-length-2
-same-length-2 c = search needs
 
 returns-3 : tie.Need-returns-3
 unfolding outcome leaves
@@ -53,12 +35,6 @@ returns-3 c =
     let e : c .before .before .before .before .before .before .pass .last .1 .0 ++ now (a .out) ≡ now (a .out) = none-before (c .before .before .before .before .before .before .pass .last .1 .0) (now (a .out)) (c .before .before .before .before .before .out .given .0) in
     let o = no-room (length (now (a .out))) s (c .before .before .before .before .before .before .before .before .if1 .left) (w .0) (omega (arith, ap length e, w .1)) in
     record { answer = ap (λ n. declined (R.NoRoom n)) (w .1) ∙ sym (ap outcome o); output = e ∙ sym (ap (λ x. leaves x (now (a .out))) o) }
-
-pass-requires-2 : tie.Need-pass-requires-2
-pass-requires-2 c κs = search needs
-
-same-length-3 : tie.Need-same-length-3
-same-length-3 c = search needs
 
 returns-4 : tie.Need-returns-4
 unfolding outcome
@@ -79,14 +55,14 @@ normalise-spec =
     tie.close
     (tie.spec
     returns
-    slice-relend-prefix-pass
-    slice-aggregate-pass
-    pass-requires
-    enum-known-measured
-    same-length
+    (λ c. search needs)
+    (λ c. search needs)
+    (λ c κs. search needs)
+    (λ c. search needs)
+    (λ c. search needs)
     returns-2
-    same-length-2
+    (λ c. search needs)
     returns-3
-    pass-requires-2
-    same-length-3
+    (λ c κs. search needs)
+    (λ c. search needs)
     returns-4)

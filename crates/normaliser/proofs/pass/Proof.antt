@@ -21,9 +21,6 @@ loop-holds c = going-start _ _
 standing-requires : tie.Need-standing-requires Inv-loop μ-loop
 standing-requires c κs = c .loop .inv .spells .there
 
-enum-known-run : tie.Need-enum-known-run Inv-loop μ-loop
-enum-known-run c = search needs
-
 copy-run-requires : tie.Need-copy-run-requires Inv-loop μ-loop
 copy-run-requires c κs =
     let h = ran-float (c .before .before .before .before .before .before .before .before .args .bytes .now) (c .before .before .before .before .before .loop .at) (c .before .before .before .before .standing .ensures) (c .before .before .run .given .1) in
@@ -46,16 +43,10 @@ loop-again c =
     let g = went-on (c .before .before .before .before .before .before .before .before .before .before .before .before .loop .inv) (h .0) (c .before .before .before .before .before .before .copy-run .ensures) in
     float-on _ g (h .1) (c .before .before .put-number .ensures)
 
-enum-known-run-2 : tie.Need-enum-known-run-2 Inv-loop μ-loop
-enum-known-run-2 c = search needs
-
 copy-run-requires-2 : tie.Need-copy-run-requires-2 Inv-loop μ-loop
 copy-run-requires-2 c κs =
     let h = ran-lookup (c .before .before .before .before .before .before .before .before .args .bytes .now) (c .before .before .before .before .before .loop .at) (c .before .before .before .before .standing .ensures) (c .before .before .run2 .given .1) in
     run-there (c .before .before .before .before .before .loop .inv) (h .0) (c .before .before .before .before .before .before .before .before .pre)
-
-cast-put-number : tie.Need-cast-put-number Inv-loop μ-loop
-cast-put-number c = search needs
 
 put-number-requires-2 : tie.Need-put-number-requires-2 Inv-loop μ-loop
 put-number-requires-2 c κs =
@@ -74,9 +65,6 @@ loop-again-2 c =
     let g = went-on (c .before .before .before .before .before .before .before .before .before .before .before .before .loop .inv) (h .0) (c .before .before .before .before .before .before .copy-run2 .ensures) in
     lookup-on _ g (h .1) (c .before .before .put-number2 .ensures)
 
-enum-known-run-3 : tie.Need-enum-known-run-3 Inv-loop μ-loop
-enum-known-run-3 c = search needs
-
 copy-run-requires-3 : tie.Need-copy-run-requires-3 Inv-loop μ-loop
 copy-run-requires-3 c κs = run-there (c .before .before .before .before .before .loop .inv) (ran-otherwise (c .before .before .before .before .before .before .before .before .args .bytes .now) (c .before .before .before .before .before .loop .at) (c .before .before .before .before .standing .ensures) (c .before .before .run3 .given .1)) (c .before .before .before .before .before .before .before .before .pre)
 
@@ -91,17 +79,8 @@ respell-requires c κs =
     let h = ran-otherwise (c .before .before .before .before .before .before .before .before .before .before .before .before .before .args .bytes .now) (c .before .before .before .before .before .before .before .before .before .before .loop .at) (c .before .before .before .before .before .before .before .before .before .standing .ensures) (c .before .before .before .before .before .before .before .run3 .given .1) in
     omega (arith, h .there)
 
-enum-known-token : tie.Need-enum-known-token Inv-loop μ-loop
-enum-known-token c = search needs
-
-same-length-2 : tie.Need-same-length-2 Inv-loop μ-loop
-same-length-2 c = search needs
-
 returns-2 : tie.Need-returns-2 Inv-loop μ-loop
 returns-2 c = stopped (went-on (c .before .before .before .before .before .before .before .before .before .before .before .before .before .before .before .before .loop .inv) (ran-otherwise (c .before .before .before .before .before .before .before .before .before .before .before .before .before .before .before .before .before .before .before .args .bytes .now) (c .before .before .before .before .before .before .before .before .before .before .before .before .before .before .before .before .loop .at) (c .before .before .before .before .before .before .before .before .before .before .before .before .before .before .before .standing .ensures) (c .before .before .before .before .before .before .before .before .before .before .before .before .before .run3 .given .1)) (c .before .before .before .before .before .before .before .before .before .before .copy-run3 .ensures)) (c .before .before .before .before .before .respell .ensures) (c .before .token .given .1)
-
-enum-known-token-2 : tie.Need-enum-known-token-2 Inv-loop μ-loop
-enum-known-token-2 c = search needs
 
 add-need : tie.Need-add-need Inv-loop μ-loop
 add-need c =
@@ -125,26 +104,26 @@ pass-spec =
     μ-loop
     loop-holds
     standing-requires
-    enum-known-run
+    (λ c. search needs)
     copy-run-requires
     put-number-requires
     loop-less
     loop-again
-    enum-known-run-2
+    (λ c. search needs)
     copy-run-requires-2
-    cast-put-number
+    (λ c. search needs)
     put-number-requires-2
     loop-less-2
     loop-again-2
-    enum-known-run-3
+    (λ c. search needs)
     copy-run-requires-3
     same-length
     returns
     respell-requires
-    enum-known-token
-    same-length-2
+    (λ c. search needs)
+    (λ c. search needs)
     returns-2
-    enum-known-token-2
+    (λ c. search needs)
     add-need
     loop-less-3
     loop-again-3)

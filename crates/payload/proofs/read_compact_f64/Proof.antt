@@ -8,27 +8,12 @@ use Rattle.payload.proofs.Cutting.{at-most-7}
 use Rattle.payload.proofs.read_compact_f64.Statement.{statement}
 use Rattle.payload.proofs.read_compact_f64.Tie as tie
 
-capped-requires : tie.Need-capped-requires
-capped-requires c κs = search needs
-
 read-few-requires : tie.Need-read-few-requires
 read-few-requires c κs = rw (c .capped .ensures) (at-most-7 (c .before .before .args .width))
-
-enum-known-r : tie.Need-enum-known-r
-enum-known-r c = search needs
-
-enum-told : tie.Need-enum-told
-enum-told c = search needs
-
-refusal-requires : tie.Need-refusal-requires
-refusal-requires c κs = search needs
 
 returns : tie.Need-returns
 unfolding mapped
 returns c = rw (sym (c .before .before .before .before .capped .ensures), elseOf u64Answer (c .before .before .before .read-few .ensures) (c .before .enum-told .given .1) (c .refusal .ensures) refl)
-
-negate-requires : tie.Need-negate-requires
-negate-requires c κs = search needs
 
 returns-2 : tie.Need-returns-2
 unfolding mapped
@@ -42,12 +27,12 @@ pub read-compact-f64-spec : {M : Type 1} → statement M
 read-compact-f64-spec =
     tie.close
     (tie.spec
-    capped-requires
+    (λ c κs. search needs)
     read-few-requires
-    enum-known-r
-    enum-told
-    refusal-requires
+    (λ c. search needs)
+    (λ c. search needs)
+    (λ c κs. search needs)
     returns
-    negate-requires
+    (λ c κs. search needs)
     returns-2
     returns-3)

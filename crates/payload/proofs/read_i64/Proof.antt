@@ -9,24 +9,9 @@ use Rattle.payload.proofs.Laws.{gotOf, elseOf}
 use Rattle.payload.proofs.read_i64.Statement.{statement}
 use Rattle.payload.proofs.read_i64.Tie as tie
 
-read-width-requires : tie.Need-read-width-requires
-read-width-requires c κs = search needs
-
-enum-known-r : tie.Need-enum-known-r
-enum-known-r c = search needs
-
-enum-told : tie.Need-enum-told
-enum-told c = search needs
-
-refusal-requires : tie.Need-refusal-requires
-refusal-requires c κs = search needs
-
 returns : tie.Need-returns
 unfolding mapped
 returns c = rw (elseOf u64Answer (c .before .before .before .read-width .ensures) (c .before .enum-told .given .1) (c .refusal .ensures) refl)
-
-signed64-requires : tie.Need-signed64-requires
-signed64-requires c κs = search needs
 
 returns-2 : tie.Need-returns-2
 unfolding mapped
@@ -38,10 +23,10 @@ pub read-i64-spec : {M : Type 1} → statement M
 read-i64-spec =
     tie.close
     (tie.spec
-    read-width-requires
-    enum-known-r
-    enum-told
-    refusal-requires
+    (λ c κs. search needs)
+    (λ c. search needs)
+    (λ c. search needs)
+    (λ c κs. search needs)
     returns
-    signed64-requires
+    (λ c κs. search needs)
     returns-2)

@@ -8,18 +8,6 @@ use Rattle.payload.proofs.Laws.{gotOf, elseOf}
 use Rattle.payload.proofs.read_lookup_u16.Statement.{statement}
 use Rattle.payload.proofs.read_lookup_u16.Tie as tie
 
-read-width-requires : tie.Need-read-width-requires
-read-width-requires c κs = search needs
-
-enum-known-r : tie.Need-enum-known-r
-enum-known-r c = search needs
-
-enum-told : tie.Need-enum-told
-enum-told c = search needs
-
-refusal-requires : tie.Need-refusal-requires
-refusal-requires c κs = search needs
-
 returns : tie.Need-returns
 returns c = sym (elseOf u64Answer (c .before .before .before .read-width .ensures) (c .before .enum-told .given .1) (c .refusal .ensures) refl)
 
@@ -35,10 +23,10 @@ pub read-lookup-u16-spec : {M : Type 1} → statement M
 read-lookup-u16-spec =
     tie.close
     (tie.spec
-    read-width-requires
-    enum-known-r
-    enum-told
-    refusal-requires
+    (λ c κs. search needs)
+    (λ c. search needs)
+    (λ c. search needs)
+    (λ c κs. search needs)
     returns
     cast-value
     returns-2)

@@ -12,18 +12,6 @@ use Rattle.payload.proofs.Rests.{from-rest, colour-in}
 use Rattle.payload.proofs.read_rgb.Statement.{statement}
 use Rattle.payload.proofs.read_rgb.Tie as tie
 
-split-rest-requires : tie.Need-split-rest-requires
-split-rest-requires c κs = search needs
-
-read-colour-requires : tie.Need-read-colour-requires
-read-colour-requires c κs = search needs
-
-enum-known-r : tie.Need-enum-known-r
-enum-known-r c = search needs
-
-enum-told : tie.Need-enum-told
-enum-told c = search needs
-
 returns : tie.Need-returns
 unfolding further
 returns c =
@@ -48,10 +36,10 @@ pub read-rgb-spec : {M : Type 1} → statement M
 read-rgb-spec =
     tie.close
     (tie.spec
-    split-rest-requires
-    read-colour-requires
-    enum-known-r
-    enum-told
+    (λ c κs. search needs)
+    (λ c κs. search needs)
+    (λ c. search needs)
+    (λ c. search needs)
     returns
     add-next
     returns-2)

@@ -16,24 +16,9 @@ use Rattle.payload.proofs.read_string.Tie as tie
 abbrev textAt : ℕ → ℕ → Text
 textAt start len = record { start = start; len = len }
 
-read-width-requires : tie.Need-read-width-requires
-read-width-requires c κs = search needs
-
-enum-known-r : tie.Need-enum-known-r
-enum-known-r c = search needs
-
-enum-told : tie.Need-enum-told
-enum-told c = search needs
-
-refusal-requires : tie.Need-refusal-requires
-refusal-requires c κs = search needs
-
 returns : tie.Need-returns
 unfolding placed
 returns c = rw (string-cut _ _ (elseOf u64Answer (c .before .before .before .read-width .ensures) (c .before .enum-told .given .1) (c .refusal .ensures) refl))
-
-has-requires : tie.Need-has-requires
-has-requires c κs = search needs
 
 returns-2 : tie.Need-returns-2
 unfolding placed
@@ -56,12 +41,12 @@ pub read-string-spec : {M : Type 1} → statement M
 read-string-spec =
     tie.close
     (tie.spec
-    read-width-requires
-    enum-known-r
-    enum-told
-    refusal-requires
+    (λ c κs. search needs)
+    (λ c. search needs)
+    (λ c. search needs)
+    (λ c κs. search needs)
     returns
-    has-requires
+    (λ c κs. search needs)
     returns-2
     add-next
     returns-3)

@@ -5,11 +5,8 @@ use borrow.Author.Needs.{needs}
 use Rattle.skip.proofs.skip_container.Statement.{statement}
 use Rattle.skip.proofs.skip_container.Tie as tie
 
-skip-from-requires : tie.Need-skip-from-requires
-skip-from-requires c κs = search needs
-
 returns : tie.Need-returns
 returns c = c .skip-from .ensures ∙ container-is _ _
 
 pub skip-container-spec : {M : Type 1} → statement M
-skip-container-spec = tie.close (tie.spec skip-from-requires returns)
+skip-container-spec = tie.close (tie.spec (λ c κs. search needs) returns)

@@ -9,9 +9,6 @@ use Rattle.split.proofs.split_head.Tie as tie
 slice-aggregate-result : tie.Need-slice-aggregate-result
 slice-aggregate-result c = sym (length-take-le _ _ (c .before .if1 .taken))
 
-slice-aggregate-result-2 : tie.Need-slice-aggregate-result-2
-slice-aggregate-result-2 c = search needs
-
 returns : tie.Need-returns
 returns c = rw (le-leb _ _ (c .before .if1 .taken))
 
@@ -20,4 +17,4 @@ returns-2 c = rw (lt-leb _ _ (c .before .if1 .left))
 
 pub split-head-spec : {M : Type 1} → statement M
 split-head-spec =
-    tie.close (tie.spec slice-aggregate-result slice-aggregate-result-2 returns returns-2)
+    tie.close (tie.spec slice-aggregate-result (λ c. search needs) returns returns-2)

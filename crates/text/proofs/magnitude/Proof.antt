@@ -32,8 +32,5 @@ cast-result c =
 returns : tie.Need-returns
 returns c = rw (less-shown w64 (c .before .args .x) (c .before .fits .x) (c .if1 .taken)) (size-is (c .before .args .x) (c .before .fits .x) (c .if1 .taken))
 
-returns-2 : tie.Need-returns-2
-returns-2 c = search needs
-
 pub magnitude-spec : {M : Type 1} → statement M
-magnitude-spec = tie.close (tie.spec add-m sub-m cast-m add-result cast-result returns returns-2)
+magnitude-spec = tie.close (tie.spec add-m sub-m cast-m add-result cast-result returns (λ c. search needs))

@@ -7,15 +7,6 @@ use borrow.Author.Needs.{needs}
 use Rattle.token.proofs.bool_token.Statement.{statement}
 use Rattle.token.proofs.bool_token.Tie as tie
 
-enum-known-r : tie.Need-enum-known-r
-enum-known-r c = search needs
-
-enum-told : tie.Need-enum-told
-enum-told c = search needs
-
-refusal-requires : tie.Need-refusal-requires
-refusal-requires c κs = search needs
-
 returns : tie.Need-returns
 returns c = refusing boolAnswer (λ _. T.Bool) (c .before .enum-told .given .1) (c .refusal .ensures) refl
 
@@ -23,4 +14,4 @@ returns-2 : tie.Need-returns-2
 returns-2 c = getting boolAnswer (λ _. T.Bool) (c .before .r .given .1) refl
 
 pub bool-token-spec : {M : Type 1} → statement M
-bool-token-spec = tie.close (tie.spec enum-known-r enum-told refusal-requires returns returns-2)
+bool-token-spec = tie.close (tie.spec (λ c. search needs) (λ c. search needs) (λ c κs. search needs) returns returns-2)

@@ -17,129 +17,6 @@ use borrow.Author.Needs.{needs}
 use Rattle.token.proofs.by_id.Statement.{statement}
 use Rattle.token.proofs.by_id.Tie as tie
 
-read-u32-requires : tie.Need-read-u32-requires
-read-u32-requires c κs = search needs
-
-u32-token-requires : tie.Need-u32-token-requires
-u32-token-requires c κs = search needs
-
-read-i32-requires : tie.Need-read-i32-requires
-read-i32-requires c κs = search needs
-
-i32-token-requires : tie.Need-i32-token-requires
-i32-token-requires c κs = search needs
-
-read-f32-requires : tie.Need-read-f32-requires
-read-f32-requires c κs = search needs
-
-f32-token-requires : tie.Need-f32-token-requires
-f32-token-requires c κs = search needs
-
-sub-read-u64 : tie.Need-sub-read-u64
-sub-read-u64 c = search needs
-
-part-read-u64-start : tie.Need-part-read-u64-start
-part-read-u64-start c = search needs
-
-part-read-u64-end : tie.Need-part-read-u64-end
-part-read-u64-end c = search needs
-
-read-u64-requires : tie.Need-read-u64-requires
-read-u64-requires c κs = search needs
-
-u64-token-requires : tie.Need-u64-token-requires
-u64-token-requires c κs = search needs
-
-sub-read-i64 : tie.Need-sub-read-i64
-sub-read-i64 c = search needs
-
-part-read-i64-start : tie.Need-part-read-i64-start
-part-read-i64-start c = search needs
-
-part-read-i64-end : tie.Need-part-read-i64-end
-part-read-i64-end c = search needs
-
-read-i64-requires : tie.Need-read-i64-requires
-read-i64-requires c κs = search needs
-
-i64-token-requires : tie.Need-i64-token-requires
-i64-token-requires c κs = search needs
-
-sub-read-f64 : tie.Need-sub-read-f64
-sub-read-f64 c = search needs
-
-part-read-f64-start : tie.Need-part-read-f64-start
-part-read-f64-start c = search needs
-
-part-read-f64-end : tie.Need-part-read-f64-end
-part-read-f64-end c = search needs
-
-read-f64-requires : tie.Need-read-f64-requires
-read-f64-requires c κs = search needs
-
-f64-token-requires : tie.Need-f64-token-requires
-f64-token-requires c κs = search needs
-
-read-bool-requires : tie.Need-read-bool-requires
-read-bool-requires c κs = search needs
-
-bool-token-requires : tie.Need-bool-token-requires
-bool-token-requires c κs = search needs
-
-read-string-requires : tie.Need-read-string-requires
-read-string-requires c κs = search needs
-
-quoted-token-requires : tie.Need-quoted-token-requires
-quoted-token-requires c κs = search needs
-
-read-string-requires-2 : tie.Need-read-string-requires-2
-read-string-requires-2 c κs = search needs
-
-unquoted-token-requires : tie.Need-unquoted-token-requires
-unquoted-token-requires c κs = search needs
-
-empty-token-requires : tie.Need-empty-token-requires
-empty-token-requires c κs = search needs
-
-sub-read-rgb : tie.Need-sub-read-rgb
-sub-read-rgb c = search needs
-
-part-read-rgb-start : tie.Need-part-read-rgb-start
-part-read-rgb-start c = search needs
-
-part-read-rgb-end : tie.Need-part-read-rgb-end
-part-read-rgb-end c = search needs
-
-read-rgb-requires : tie.Need-read-rgb-requires
-read-rgb-requires c κs = search needs
-
-rgb-token-requires : tie.Need-rgb-token-requires
-rgb-token-requires c κs = search needs
-
-read-lookup-u8-requires : tie.Need-read-lookup-u8-requires
-read-lookup-u8-requires c κs = search needs
-
-lookup-u8-token-requires : tie.Need-lookup-u8-token-requires
-lookup-u8-token-requires c κs = search needs
-
-read-lookup-u16-requires : tie.Need-read-lookup-u16-requires
-read-lookup-u16-requires c κs = search needs
-
-lookup-u16-token-requires : tie.Need-lookup-u16-token-requires
-lookup-u16-token-requires c κs = search needs
-
-read-lookup-u24-requires : tie.Need-read-lookup-u24-requires
-read-lookup-u24-requires c κs = search needs
-
-lookup-token-requires : tie.Need-lookup-token-requires
-lookup-token-requires c κs = search needs
-
-read-lookup-u32-requires : tie.Need-read-lookup-u32-requires
-read-lookup-u32-requires c κs = search needs
-
-lookup-token-requires-2 : tie.Need-lookup-token-requires-2
-lookup-token-requires-2 c κs = search needs
-
 sub-width : tie.Need-sub-width
 unfolding entries table
 sub-width c = omega (arith, range-from _ (c .before .before .match .rest) (c .before .if1 .left))
@@ -147,41 +24,8 @@ sub-width c = omega (arith, range-from _ (c .before .before .match .rest) (c .be
 cast-width : tie.Need-cast-width
 cast-width c = omega (arith, c .if2 .taken)
 
-sub-read-compact-f64 : tie.Need-sub-read-compact-f64
-sub-read-compact-f64 c = search needs
-
-part-read-compact-f64-start : tie.Need-part-read-compact-f64-start
-part-read-compact-f64-start c = search needs
-
-part-read-compact-f64-end : tie.Need-part-read-compact-f64-end
-part-read-compact-f64-end c = search needs
-
-read-compact-f64-requires : tie.Need-read-compact-f64-requires
-read-compact-f64-requires c κs = search needs
-
-f64-token-requires-2 : tie.Need-f64-token-requires-2
-f64-token-requires-2 c κs = search needs
-
-sub-width-2 : tie.Need-sub-width-2
-sub-width-2 c = search needs
-
 cast-width-2 : tie.Need-cast-width-2
 cast-width-2 c = omega (arith, c .if3 .taken)
-
-sub-read-compact-f64-2 : tie.Need-sub-read-compact-f64-2
-sub-read-compact-f64-2 c = search needs
-
-part-read-compact-f64-start-2 : tie.Need-part-read-compact-f64-start-2
-part-read-compact-f64-start-2 c = search needs
-
-part-read-compact-f64-end-2 : tie.Need-part-read-compact-f64-end-2
-part-read-compact-f64-end-2 c = search needs
-
-read-compact-f64-requires-2 : tie.Need-read-compact-f64-requires-2
-read-compact-f64-requires-2 c κs = search needs
-
-f64-token-requires-3 : tie.Need-f64-token-requires-3
-f64-token-requires-3 c κs = search needs
 
 returns : tie.Need-returns
 unfolding after orPlain find entries table tokenOf
@@ -289,61 +133,61 @@ pub by-id-spec : {M : Type 1} → statement M
 by-id-spec =
     tie.close
     (tie.spec
-    read-u32-requires
-    u32-token-requires
-    read-i32-requires
-    i32-token-requires
-    read-f32-requires
-    f32-token-requires
-    sub-read-u64
-    part-read-u64-start
-    part-read-u64-end
-    read-u64-requires
-    u64-token-requires
-    sub-read-i64
-    part-read-i64-start
-    part-read-i64-end
-    read-i64-requires
-    i64-token-requires
-    sub-read-f64
-    part-read-f64-start
-    part-read-f64-end
-    read-f64-requires
-    f64-token-requires
-    read-bool-requires
-    bool-token-requires
-    read-string-requires
-    quoted-token-requires
-    read-string-requires-2
-    unquoted-token-requires
-    empty-token-requires
-    sub-read-rgb
-    part-read-rgb-start
-    part-read-rgb-end
-    read-rgb-requires
-    rgb-token-requires
-    read-lookup-u8-requires
-    lookup-u8-token-requires
-    read-lookup-u16-requires
-    lookup-u16-token-requires
-    read-lookup-u24-requires
-    lookup-token-requires
-    read-lookup-u32-requires
-    lookup-token-requires-2
+    (λ c κs. search needs)
+    (λ c κs. search needs)
+    (λ c κs. search needs)
+    (λ c κs. search needs)
+    (λ c κs. search needs)
+    (λ c κs. search needs)
+    (λ c. search needs)
+    (λ c. search needs)
+    (λ c. search needs)
+    (λ c κs. search needs)
+    (λ c κs. search needs)
+    (λ c. search needs)
+    (λ c. search needs)
+    (λ c. search needs)
+    (λ c κs. search needs)
+    (λ c κs. search needs)
+    (λ c. search needs)
+    (λ c. search needs)
+    (λ c. search needs)
+    (λ c κs. search needs)
+    (λ c κs. search needs)
+    (λ c κs. search needs)
+    (λ c κs. search needs)
+    (λ c κs. search needs)
+    (λ c κs. search needs)
+    (λ c κs. search needs)
+    (λ c κs. search needs)
+    (λ c κs. search needs)
+    (λ c. search needs)
+    (λ c. search needs)
+    (λ c. search needs)
+    (λ c κs. search needs)
+    (λ c κs. search needs)
+    (λ c κs. search needs)
+    (λ c κs. search needs)
+    (λ c κs. search needs)
+    (λ c κs. search needs)
+    (λ c κs. search needs)
+    (λ c κs. search needs)
+    (λ c κs. search needs)
+    (λ c κs. search needs)
     sub-width
     cast-width
-    sub-read-compact-f64
-    part-read-compact-f64-start
-    part-read-compact-f64-end
-    read-compact-f64-requires
-    f64-token-requires-2
-    sub-width-2
+    (λ c. search needs)
+    (λ c. search needs)
+    (λ c. search needs)
+    (λ c κs. search needs)
+    (λ c κs. search needs)
+    (λ c. search needs)
     cast-width-2
-    sub-read-compact-f64-2
-    part-read-compact-f64-start-2
-    part-read-compact-f64-end-2
-    read-compact-f64-requires-2
-    f64-token-requires-3
+    (λ c. search needs)
+    (λ c. search needs)
+    (λ c. search needs)
+    (λ c κs. search needs)
+    (λ c κs. search needs)
     returns
     returns-2
     returns-3

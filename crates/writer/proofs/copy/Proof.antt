@@ -7,12 +7,6 @@ use Rattle.writer.proofs.Judging.{not-stored, room, stored}
 use Rattle.writer.proofs.copy.Statement.{statement}
 use Rattle.writer.proofs.copy.Tie as tie
 
-fit-requires : tie.Need-fit-requires
-fit-requires c κs = search needs
-
-enum-told : tie.Need-enum-told
-enum-told c = search needs
-
 returns : tie.Need-returns
 returns c =
     let a = c .before .before .before .before .args in
@@ -24,9 +18,6 @@ all-requires c κs =
     let a = k .before .before .before .args in
     omega (arith, room (now (a .out)) (now (a .src)) (k .fit .result) refl (k .fit .ensures) (c .before .enum-told .given .1))
 
-same-length : tie.Need-same-length
-same-length c = search needs
-
 returns-2 : tie.Need-returns-2
 returns-2 c =
     let k = c .before .before .before .before .before .before in
@@ -36,4 +27,4 @@ returns-2 c =
 pub copy-spec : {M : Type 1} → statement M
 copy-spec =
     tie.close
-    (tie.spec fit-requires enum-told returns all-requires same-length returns-2)
+    (tie.spec (λ c κs. search needs) (λ c. search needs) returns all-requires (λ c. search needs) returns-2)

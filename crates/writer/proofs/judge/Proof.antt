@@ -13,60 +13,9 @@ use Rattle.writer.proofs.Sizes.{number-size, endSize, colour-size}
 use Rattle.writer.proofs.judge.Statement.{statement}
 use Rattle.writer.proofs.judge.Tie as tie
 
-enum-known-p : tie.Need-enum-known-p
-enum-known-p c = search needs
-
-cast-fit : tie.Need-cast-fit
-cast-fit c = search needs
-
-add-fit : tie.Need-add-fit
-add-fit c = search needs
-
-fit-requires : tie.Need-fit-requires
-fit-requires c κs = search needs
-
-enum-known-p-2 : tie.Need-enum-known-p-2
-enum-known-p-2 c = search needs
-
-judge-text-requires : tie.Need-judge-text-requires
-judge-text-requires c κs = search needs
-
-enum-known-p-3 : tie.Need-enum-known-p-3
-enum-known-p-3 c = search needs
-
 returns : tie.Need-returns
 unfolding writeBy misplacedBy writableBy spelledBy unless outcome
 returns c = rw (c .before .before .p3 .given .1, le-ltb (c .before .before .p3 .given .0 .0) (2 ^ 24) (c .if1 .taken))
-
-fit-requires-2 : tie.Need-fit-requires-2
-fit-requires-2 c κs = search needs
-
-enum-known-p-4 : tie.Need-enum-known-p-4
-enum-known-p-4 c = search needs
-
-enum-told : tie.Need-enum-told
-enum-told c = search needs
-
-fit-requires-3 : tie.Need-fit-requires-3
-fit-requires-3 c κs = search needs
-
-enum-told-2 : tie.Need-enum-told-2
-enum-told-2 c = search needs
-
-fit-requires-4 : tie.Need-fit-requires-4
-fit-requires-4 c κs = search needs
-
-enum-known-p-5 : tie.Need-enum-known-p-5
-enum-known-p-5 c = search needs
-
-new-requires : tie.Need-new-requires
-new-requires c κs = search needs
-
-is-id-requires : tie.Need-is-id-requires
-is-id-requires c κs = search needs
-
-fit-requires-5 : tie.Need-fit-requires-5
-fit-requires-5 c κs = search needs
 
 returns-2 : tie.Need-returns-2
 unfolding writeBy misplacedBy writableBy spelledBy unless outcome
@@ -113,24 +62,24 @@ pub judge-spec : {M : Type 1} → statement M
 judge-spec =
     tie.close
     (tie.spec
-    enum-known-p
-    cast-fit
-    add-fit
-    fit-requires
-    enum-known-p-2
-    judge-text-requires
-    enum-known-p-3
+    (λ c. search needs)
+    (λ c. search needs)
+    (λ c. search needs)
+    (λ c κs. search needs)
+    (λ c. search needs)
+    (λ c κs. search needs)
+    (λ c. search needs)
     returns
-    fit-requires-2
-    enum-known-p-4
-    enum-told
-    fit-requires-3
-    enum-told-2
-    fit-requires-4
-    enum-known-p-5
-    new-requires
-    is-id-requires
-    fit-requires-5
+    (λ c κs. search needs)
+    (λ c. search needs)
+    (λ c. search needs)
+    (λ c κs. search needs)
+    (λ c. search needs)
+    (λ c κs. search needs)
+    (λ c. search needs)
+    (λ c κs. search needs)
+    (λ c κs. search needs)
+    (λ c κs. search needs)
     returns-2
     returns-3
     returns-4

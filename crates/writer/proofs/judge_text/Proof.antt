@@ -16,27 +16,12 @@ use Rattle.writer.proofs.Splitting.{placed-length}
 use Rattle.writer.proofs.judge_text.Statement.{statement}
 use Rattle.writer.proofs.judge_text.Tie as tie
 
-text-requires : tie.Need-text-requires
-text-requires c κs = search needs
-
-enum-known-place : tie.Need-enum-known-place
-enum-known-place c = search needs
-
-enum-told : tie.Need-enum-told
-enum-told c = search needs
-
 returns : tie.Need-returns
 unfolding writeBy misplacedBy writableBy spelledBy unless outcome
 returns c =
     let a = c .before .before .before .before .before .args in
     let q : placeOf (now (a .bytes)) (a .t) ≡ none = sym (c .before .before .before .text .ensures) ∙ ap placeAnswer (c .before .enum-told .given .1) in
     rw (q, le-ltb (a .t .len) 65536 (c .if1 .taken))
-
-add-fit : tie.Need-add-fit
-add-fit c = search needs
-
-fit-requires : tie.Need-fit-requires
-fit-requires c κs = search needs
 
 returns-2 : tie.Need-returns-2
 unfolding writeBy misplacedBy writableBy spelledBy unless outcome
@@ -58,11 +43,11 @@ pub judge-text-spec : {M : Type 1} → statement M
 judge-text-spec =
     tie.close
     (tie.spec
-    text-requires
-    enum-known-place
-    enum-told
+    (λ c κs. search needs)
+    (λ c. search needs)
+    (λ c. search needs)
     returns
-    add-fit
-    fit-requires
+    (λ c. search needs)
+    (λ c κs. search needs)
     returns-2
     returns-3)

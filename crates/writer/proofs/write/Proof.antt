@@ -11,15 +11,6 @@ use Rattle.writer.proofs.Judging.{refused-leaves, written-fits}
 use Rattle.writer.proofs.write.Statement.{statement}
 use Rattle.writer.proofs.write.Tie as tie
 
-split-requires : tie.Need-split-requires
-split-requires c κs = search needs
-
-judge-requires : tie.Need-judge-requires
-judge-requires c κs = search needs
-
-enum-told : tie.Need-enum-told
-enum-told c = search needs
-
 returns : tie.Need-returns
 returns c =
     let a = c .before .before .before .before .before .args in
@@ -34,9 +25,6 @@ parts-requires : tie.Need-parts-requires
 parts-requires c κs =
     let a = c .before .before .before .before .before .before .before .args in
     omega (arith, written-fits (length (now (a .out))) (now (a .bytes)) (c .before .before .before .before .split .result) (c .before .before .before .judge .ensures) (c .before .enum-told .given .1) .1)
-
-same-length : tie.Need-same-length
-same-length c = search needs
 
 returns-2 : tie.Need-returns-2
 unfolding leaves
@@ -53,4 +41,4 @@ returns-2 c =
 pub write-spec : {M : Type 1} → statement M
 write-spec =
     tie.close
-    (tie.spec split-requires judge-requires enum-told returns parts-requires same-length returns-2)
+    (tie.spec (λ c κs. search needs) (λ c κs. search needs) (λ c. search needs) returns parts-requires (λ c. search needs) returns-2)

@@ -8,15 +8,6 @@ use Rattle.writer.proofs.Sizes.{number-size}
 use Rattle.writer.proofs.write_number.Statement.{statement}
 use Rattle.writer.proofs.write_number.Tie as tie
 
-add-fit : tie.Need-add-fit
-add-fit c = search needs
-
-fit-requires : tie.Need-fit-requires
-fit-requires c κs = search needs
-
-enum-told : tie.Need-enum-told
-enum-told c = search needs
-
 returns : tie.Need-returns
 returns c =
     let a = c .before .before .before .args in
@@ -29,9 +20,6 @@ id-number-requires c κs =
     let e = number-size (a .id .0) (a .width) (a .x) in
     omega (arith, e, room (now (a .out)) (idNumber (a .id .0) (a .width) (a .x)) (k .fit .result) e (k .fit .ensures) (c .before .enum-told .given .1))
 
-same-length : tie.Need-same-length
-same-length c = search needs
-
 returns-2 : tie.Need-returns-2
 returns-2 c =
     let k = c .before .before .before .before .before .before in
@@ -42,4 +30,4 @@ returns-2 c =
 pub write-number-spec : {M : Type 1} → statement M
 write-number-spec =
     tie.close
-    (tie.spec add-fit fit-requires enum-told returns id-number-requires same-length returns-2)
+    (tie.spec (λ c. search needs) (λ c κs. search needs) (λ c. search needs) returns id-number-requires (λ c. search needs) returns-2)

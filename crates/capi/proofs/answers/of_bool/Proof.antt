@@ -3,21 +3,6 @@ use borrow.Author.Needs.{needs}
 use Rattle.capi.proofs.answers.of_bool.Statement.{statement}
 use Rattle.capi.proofs.answers.of_bool.Tie as tie
 
-enum-known-r : tie.Need-enum-known-r
-enum-known-r c = search needs
-
-of-bool-requires : tie.Need-of-bool-requires
-of-bool-requires c κs = search needs
-
-answered-requires : tie.Need-answered-requires
-answered-requires c κs = search needs
-
-enum-known-r-2 : tie.Need-enum-known-r-2
-enum-known-r-2 c = search needs
-
-refused-requires : tie.Need-refused-requires
-refused-requires c κs = search needs
-
 returns : tie.Need-returns
 returns c = rw (c .before .before .before .r .given .1, ← c .before .of-bool .ensures) (c .answered .ensures)
 
@@ -28,10 +13,10 @@ pub of-bool-spec : {M : Type 1} → statement M
 of-bool-spec =
     tie.close
     (tie.spec
-    enum-known-r
-    of-bool-requires
-    answered-requires
-    enum-known-r-2
-    refused-requires
+    (λ c. search needs)
+    (λ c κs. search needs)
+    (λ c κs. search needs)
+    (λ c. search needs)
+    (λ c κs. search needs)
     returns
     returns-2)

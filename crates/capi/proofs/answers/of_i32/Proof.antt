@@ -6,21 +6,6 @@ use borrow.Author.Needs.{needs}
 use Rattle.capi.proofs.answers.of_i32.Statement.{statement}
 use Rattle.capi.proofs.answers.of_i32.Tie as tie
 
-enum-known-r : tie.Need-enum-known-r
-enum-known-r c = search needs
-
-of-i32-requires : tie.Need-of-i32-requires
-of-i32-requires c κs = search needs
-
-answered-requires : tie.Need-answered-requires
-answered-requires c κs = search needs
-
-enum-known-r-2 : tie.Need-enum-known-r-2
-enum-known-r-2 c = search needs
-
-refused-requires : tie.Need-refused-requires
-refused-requires c κs = search needs
-
 returns : tie.Need-returns
 returns c =
     let z = c .before .before .before .r .given .0 .0 in
@@ -34,10 +19,10 @@ pub of-i32-spec : {M : Type 1} → statement M
 of-i32-spec =
     tie.close
     (tie.spec
-    enum-known-r
-    of-i32-requires
-    answered-requires
-    enum-known-r-2
-    refused-requires
+    (λ c. search needs)
+    (λ c κs. search needs)
+    (λ c κs. search needs)
+    (λ c. search needs)
+    (λ c κs. search needs)
     returns
     returns-2)

@@ -3,24 +3,6 @@ use borrow.Author.Needs.{needs}
 use Rattle.capi.proofs.answers.of_next_token.Statement.{statement}
 use Rattle.capi.proofs.answers.of_next_token.Tie as tie
 
-enum-known-r : tie.Need-enum-known-r
-enum-known-r c = search needs
-
-of-token-requires : tie.Need-of-token-requires
-of-token-requires c κs = search needs
-
-enum-told : tie.Need-enum-told
-enum-told c = search needs
-
-absent-requires : tie.Need-absent-requires
-absent-requires c κs = search needs
-
-enum-known-r-2 : tie.Need-enum-known-r-2
-enum-known-r-2 c = search needs
-
-refused-requires : tie.Need-refused-requires
-refused-requires c κs = search needs
-
 returns : tie.Need-returns
 returns c = rw (c .before .before .r .given .1) (c .of-token .ensures)
 
@@ -34,12 +16,12 @@ pub of-next-token-spec : {M : Type 1} → statement M
 of-next-token-spec =
     tie.close
     (tie.spec
-    enum-known-r
-    of-token-requires
-    enum-told
-    absent-requires
-    enum-known-r-2
-    refused-requires
+    (λ c. search needs)
+    (λ c κs. search needs)
+    (λ c. search needs)
+    (λ c κs. search needs)
+    (λ c. search needs)
+    (λ c κs. search needs)
     returns
     returns-2
     returns-3)

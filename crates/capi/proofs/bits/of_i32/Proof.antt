@@ -10,11 +10,8 @@ use Rattle.capi.proofs.bits.of_i32.Tie as tie
 cast-of-i64 : tie.Need-cast-of-i64
 cast-of-i64 c = widens tt (c .fits .x)
 
-of-i64-requires : tie.Need-of-i64-requires
-of-i64-requires c κs = search needs
-
 returns : tie.Need-returns
 returns c = c .of-i64 .ensures ∙ ap (ofZ w64) (widened tt (c .before .fits .x))
 
 pub of-i32-spec : {M : Type 1} → statement M
-of-i32-spec = tie.close (tie.spec cast-of-i64 of-i64-requires returns)
+of-i32-spec = tie.close (tie.spec cast-of-i64 (λ c κs. search needs) returns)

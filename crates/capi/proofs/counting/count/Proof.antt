@@ -24,29 +24,11 @@ abbrev μ-loop : tie.MeasureT-loop
 loop-holds : tie.Need-loop-holds Inv-loop μ-loop
 loop-holds c = (zero-le, zero-le, at-start _)
 
-read-token-requires : tie.Need-read-token-requires Inv-loop μ-loop
-read-token-requires c κs = search needs
-
-enum-known-r : tie.Need-enum-known-r Inv-loop μ-loop
-enum-known-r c = search needs
-
-enum-told : tie.Need-enum-told Inv-loop μ-loop
-enum-told c = search needs
-
-refusal-requires : tie.Need-refusal-requires Inv-loop μ-loop
-refusal-requires c κs = search needs
-
-refused-requires : tie.Need-refused-requires Inv-loop μ-loop
-refused-requires c κs = search needs
-
 returns : tie.Need-returns Inv-loop μ-loop
 unfolding refusalOf
 returns c =
     let e = elseOf tokenAnswer (c .before .before .before .before .read-token .ensures) (c .before .before .enum-told .given .1) (c .before .refusal .ensures) refl in
     c .refused .ensures ∙ cut-off _ _ (c .before .before .before .before .before .loop-test .taken) e _ ∙ c .before .before .before .before .before .before .loop .inv .2
-
-add-n : tie.Need-add-n Inv-loop μ-loop
-add-n c = omega arith
 
 loop-less : tie.Need-loop-less Inv-loop μ-loop
 loop-less c =
@@ -58,9 +40,6 @@ loop-again c =
     let r = token-read _ _ (gotOf tokenAnswer (c .before .before .before .read-token .ensures) (c .before .r .given .1)) in
     (r .there, omega (arith, r .on), sym (counted _ _ r _) ∙ c .before .before .before .before .before .loop .inv .2)
 
-answered-requires : tie.Need-answered-requires Inv-loop μ-loop
-answered-requires c κs = search needs
-
 returns-2 : tie.Need-returns-2 Inv-loop μ-loop
 returns-2 c = c .answered .ensures ∙ at-end (c .before .before .before .before .args .bytes .now) (c .before .before .loop .at) _ (omega arith) ∙ c .before .before .loop .inv .2
 
@@ -71,14 +50,14 @@ count-spec =
     Inv-loop
     μ-loop
     loop-holds
-    read-token-requires
-    enum-known-r
-    enum-told
-    refusal-requires
-    refused-requires
+    (λ c κs. search needs)
+    (λ c. search needs)
+    (λ c. search needs)
+    (λ c κs. search needs)
+    (λ c κs. search needs)
     returns
-    add-n
+    (λ c. omega arith)
     loop-less
     loop-again
-    answered-requires
+    (λ c κs. search needs)
     returns-2)

@@ -8,20 +8,11 @@ use borrow.Author.Needs.{needs}
 use Rattle.capi.proofs.given.i32_token.Statement.{statement}
 use Rattle.capi.proofs.given.i32_token.Tie as tie
 
-cast-low : tie.Need-cast-low
-cast-low c = search needs
-
 returns : tie.Need-returns
 returns c = low _ (c .if1 .taken)
 
 returns-2 : tie.Need-returns-2
 returns-2 c = between _ (c .before .if1 .left) (c .if2 .taken)
-
-sub-lacks : tie.Need-sub-lacks
-sub-lacks c = search needs
-
-cast-lacks : tie.Need-cast-lacks
-cast-lacks c = search needs
 
 sub-high : tie.Need-sub-high
 sub-high c = less-fits w32 (18446744073709551615 - c .before .before .args .x) (omega arith)
@@ -31,4 +22,4 @@ returns-3 c = high _ (c .if2 .left) (c .before .before .fits .x .fits)
 
 pub i32-token-spec : {M : Type 1} → statement M
 i32-token-spec =
-    tie.close (tie.spec cast-low returns returns-2 sub-lacks cast-lacks sub-high returns-3)
+    tie.close (tie.spec (λ c. search needs) returns returns-2 (λ c. search needs) (λ c. search needs) sub-high returns-3)

@@ -8,57 +8,6 @@ use borrow.Author.Needs.{needs}
 use Rattle.capi.proofs.given.of_words.Statement.{statement}
 use Rattle.capi.proofs.given.of_words.Tie as tie
 
-shared-slice-read-x : tie.Need-shared-slice-read-x
-shared-slice-read-x c = search needs
-
-u32-token-requires : tie.Need-u32-token-requires
-u32-token-requires c κs = search needs
-
-i32-token-requires : tie.Need-i32-token-requires
-i32-token-requires c κs = search needs
-
-bool-token-requires : tie.Need-bool-token-requires
-bool-token-requires c κs = search needs
-
-shared-slice-read-text : tie.Need-shared-slice-read-text
-shared-slice-read-text c = search needs
-
-text-requires : tie.Need-text-requires
-text-requires c κs = search needs
-
-shared-slice-read-text-2 : tie.Need-shared-slice-read-text-2
-shared-slice-read-text-2 c = search needs
-
-text-requires-2 : tie.Need-text-requires-2
-text-requires-2 c κs = search needs
-
-f32-token-requires : tie.Need-f32-token-requires
-f32-token-requires c κs = search needs
-
-shared-slice-read-rgb-token : tie.Need-shared-slice-read-rgb-token
-shared-slice-read-rgb-token c = search needs
-
-shared-slice-read-rgb-token-2 : tie.Need-shared-slice-read-rgb-token-2
-shared-slice-read-rgb-token-2 c = search needs
-
-shared-slice-read-rgb-token-3 : tie.Need-shared-slice-read-rgb-token-3
-shared-slice-read-rgb-token-3 c = search needs
-
-shared-slice-read-rgb-token-4 : tie.Need-shared-slice-read-rgb-token-4
-shared-slice-read-rgb-token-4 c = search needs
-
-rgb-token-requires : tie.Need-rgb-token-requires
-rgb-token-requires c κs = search needs
-
-signed64-requires : tie.Need-signed64-requires
-signed64-requires c κs = search needs
-
-lookup-token-requires : tie.Need-lookup-token-requires
-lookup-token-requires c κs = search needs
-
-id-token-requires : tie.Need-id-token-requires
-id-token-requires c κs = search needs
-
 returns : tie.Need-returns
 unfolding kindToken kindTokens
 returns c = rw (c .match .keys1)
@@ -128,23 +77,23 @@ pub of-words-spec : {M : Type 1} → statement M
 of-words-spec =
     tie.close
     (tie.spec
-    shared-slice-read-x
-    u32-token-requires
-    i32-token-requires
-    bool-token-requires
-    shared-slice-read-text
-    text-requires
-    shared-slice-read-text-2
-    text-requires-2
-    f32-token-requires
-    shared-slice-read-rgb-token
-    shared-slice-read-rgb-token-2
-    shared-slice-read-rgb-token-3
-    shared-slice-read-rgb-token-4
-    rgb-token-requires
-    signed64-requires
-    lookup-token-requires
-    id-token-requires
+    (λ c. search needs)
+    (λ c κs. search needs)
+    (λ c κs. search needs)
+    (λ c κs. search needs)
+    (λ c. search needs)
+    (λ c κs. search needs)
+    (λ c. search needs)
+    (λ c κs. search needs)
+    (λ c κs. search needs)
+    (λ c. search needs)
+    (λ c. search needs)
+    (λ c. search needs)
+    (λ c. search needs)
+    (λ c κs. search needs)
+    (λ c κs. search needs)
+    (λ c κs. search needs)
+    (λ c κs. search needs)
     returns
     returns-2
     returns-3

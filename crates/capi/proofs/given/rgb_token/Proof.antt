@@ -16,23 +16,11 @@ returns-3 c = rw (le-leb _ _ (c .before .before .if1 .left), le-leb _ _ (c .befo
 returns-4 : tie.Need-returns-4
 returns-4 c = rw (le-leb _ _ (c .before .before .before .if1 .left), le-leb _ _ (c .before .before .if2 .left), le-leb _ _ (c .before .if3 .left), lt-leb _ _ (c .if4 .taken))
 
-cast-red : tie.Need-cast-red
-cast-red c = search needs
-
-cast-green : tie.Need-cast-green
-cast-green c = search needs
-
-cast-blue : tie.Need-cast-blue
-cast-blue c = search needs
-
 returns-5 : tie.Need-returns-5
 returns-5 c = rw (le-leb _ _ (c .before .before .before .before .if1 .left), le-leb _ _ (c .before .before .before .if2 .left), le-leb _ _ (c .before .before .if3 .left), le-leb _ _ (c .before .if4 .left), eq-eqb _ 0 (c .if5 .taken))
 
 returns-6 : tie.Need-returns-6
 returns-6 c = rw (le-leb _ _ (c .before .before .before .before .before .if1 .left), le-leb _ _ (c .before .before .before .before .if2 .left), le-leb _ _ (c .before .before .before .if3 .left), le-leb _ _ (c .before .before .if4 .left), ne-eqb _ 0 (c .before .if5 .left), lt-leb _ _ (c .if6 .taken))
-
-cast-alpha : tie.Need-cast-alpha
-cast-alpha c = search needs
 
 returns-7 : tie.Need-returns-7
 returns-7 c = rw (le-leb _ _ (c .before .before .before .before .before .if1 .left), le-leb _ _ (c .before .before .before .before .if2 .left), le-leb _ _ (c .before .before .before .if3 .left), le-leb _ _ (c .before .before .if4 .left), ne-eqb _ 0 (c .before .if5 .left), le-leb _ _ (c .if6 .left))
@@ -45,10 +33,10 @@ rgb-token-spec =
     returns-2
     returns-3
     returns-4
-    cast-red
-    cast-green
-    cast-blue
+    (λ c. search needs)
+    (λ c. search needs)
+    (λ c. search needs)
     returns-5
     returns-6
-    cast-alpha
+    (λ c. search needs)
     returns-7)

@@ -6,15 +6,9 @@ use Rattle.capi.proofs.Laws.{kind-number}
 use Rattle.capi.proofs.kinds.stivlaheim_into_kind.Statement.{statement}
 use Rattle.capi.proofs.kinds.stivlaheim_into_kind.Tie as tie
 
-into-kind-requires : tie.Need-into-kind-requires
-into-kind-requires c κs = search needs
-
-kind-number-requires : tie.Need-kind-number-requires
-kind-number-requires c κs = search needs
-
 returns : tie.Need-returns
 returns c = c .kind-number .ensures ∙ ap kindNumber (c .before .into-kind .ensures) ∙ kind-number _
 
 pub stivlaheim-into-kind-spec : {M : Type 1} → statement M
 stivlaheim-into-kind-spec =
-    tie.close (tie.spec into-kind-requires kind-number-requires returns)
+    tie.close (tie.spec (λ c κs. search needs) (λ c κs. search needs) returns)

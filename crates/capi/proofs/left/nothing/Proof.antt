@@ -4,11 +4,8 @@ use borrow.Author.Needs.{needs}
 use Rattle.capi.proofs.left.nothing.Statement.{statement}
 use Rattle.capi.proofs.left.nothing.Tie as tie
 
-absent-requires : tie.Need-absent-requires
-absent-requires c κs = search needs
-
 returns : tie.Need-returns
 returns c = leaving _ (c .absent .ensures)
 
 pub nothing-spec : {M : Type 1} → statement M
-nothing-spec = tie.close (tie.spec absent-requires returns)
+nothing-spec = tie.close (tie.spec (λ c κs. search needs) returns)

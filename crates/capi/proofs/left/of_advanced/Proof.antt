@@ -3,21 +3,6 @@ use borrow.Author.Needs.{needs}
 use Rattle.capi.proofs.left.of_advanced.Statement.{statement}
 use Rattle.capi.proofs.left.of_advanced.Tie as tie
 
-enum-known-r : tie.Need-enum-known-r
-enum-known-r c = search needs
-
-of-bool-requires : tie.Need-of-bool-requires
-of-bool-requires c κs = search needs
-
-got-requires : tie.Need-got-requires
-got-requires c κs = search needs
-
-enum-known-r-2 : tie.Need-enum-known-r-2
-enum-known-r-2 c = search needs
-
-stopped-requires : tie.Need-stopped-requires
-stopped-requires c κs = search needs
-
 returns : tie.Need-returns
 returns c = rw (c .before .before .before .r .given .1) (rw (c .before .of-bool .ensures) at (c .got .ensures))
 
@@ -28,10 +13,10 @@ pub of-advanced-spec : {M : Type 1} → statement M
 of-advanced-spec =
     tie.close
     (tie.spec
-    enum-known-r
-    of-bool-requires
-    got-requires
-    enum-known-r-2
-    stopped-requires
+    (λ c. search needs)
+    (λ c κs. search needs)
+    (λ c κs. search needs)
+    (λ c. search needs)
+    (λ c κs. search needs)
     returns
     returns-2)

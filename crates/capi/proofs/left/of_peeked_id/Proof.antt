@@ -3,27 +3,6 @@ use borrow.Author.Needs.{needs}
 use Rattle.capi.proofs.left.of_peeked_id.Statement.{statement}
 use Rattle.capi.proofs.left.of_peeked_id.Tie as tie
 
-enum-known-r : tie.Need-enum-known-r
-enum-known-r c = search needs
-
-cast-got : tie.Need-cast-got
-cast-got c = search needs
-
-got-requires : tie.Need-got-requires
-got-requires c κs = search needs
-
-enum-known-r-2 : tie.Need-enum-known-r-2
-enum-known-r-2 c = search needs
-
-nothing-requires : tie.Need-nothing-requires
-nothing-requires c κs = search needs
-
-enum-known-r-3 : tie.Need-enum-known-r-3
-enum-known-r-3 c = search needs
-
-stopped-requires : tie.Need-stopped-requires
-stopped-requires c κs = search needs
-
 returns : tie.Need-returns
 returns c = rw (c .before .before .before .r .given .1) (c .got .ensures)
 
@@ -37,13 +16,13 @@ pub of-peeked-id-spec : {M : Type 1} → statement M
 of-peeked-id-spec =
     tie.close
     (tie.spec
-    enum-known-r
-    cast-got
-    got-requires
-    enum-known-r-2
-    nothing-requires
-    enum-known-r-3
-    stopped-requires
+    (λ c. search needs)
+    (λ c. search needs)
+    (λ c κs. search needs)
+    (λ c. search needs)
+    (λ c κs. search needs)
+    (λ c. search needs)
+    (λ c κs. search needs)
     returns
     returns-2
     returns-3)

@@ -3,24 +3,6 @@ use borrow.Author.Needs.{needs}
 use Rattle.capi.proofs.left.of_tried.Statement.{statement}
 use Rattle.capi.proofs.left.of_tried.Tie as tie
 
-enum-known-r : tie.Need-enum-known-r
-enum-known-r c = search needs
-
-got-requires : tie.Need-got-requires
-got-requires c κs = search needs
-
-enum-known-r-2 : tie.Need-enum-known-r-2
-enum-known-r-2 c = search needs
-
-nothing-requires : tie.Need-nothing-requires
-nothing-requires c κs = search needs
-
-enum-known-r-3 : tie.Need-enum-known-r-3
-enum-known-r-3 c = search needs
-
-stopped-requires : tie.Need-stopped-requires
-stopped-requires c κs = search needs
-
 returns : tie.Need-returns
 returns c = rw (c .before .before .r .given .1) (c .got .ensures)
 
@@ -34,12 +16,12 @@ pub of-tried-spec : {M : Type 1} → statement M
 of-tried-spec =
     tie.close
     (tie.spec
-    enum-known-r
-    got-requires
-    enum-known-r-2
-    nothing-requires
-    enum-known-r-3
-    stopped-requires
+    (λ c. search needs)
+    (λ c κs. search needs)
+    (λ c. search needs)
+    (λ c κs. search needs)
+    (λ c. search needs)
+    (λ c κs. search needs)
     returns
     returns-2
     returns-3)

@@ -4,11 +4,8 @@ use borrow.Author.Needs.{needs}
 use Rattle.capi.proofs.left.stopped.Statement.{statement}
 use Rattle.capi.proofs.left.stopped.Tie as tie
 
-refused-requires : tie.Need-refused-requires
-refused-requires c κs = search needs
-
 returns : tie.Need-returns
 returns c = leaving _ (c .refused .ensures)
 
 pub stopped-spec : {M : Type 1} → statement M
-stopped-spec = tie.close (tie.spec refused-requires returns)
+stopped-spec = tie.close (tie.spec (λ c κs. search needs) returns)

@@ -10,9 +10,6 @@ use Rattle.capi.proofs.replies.store.Tie as tie
 returns : tie.Need-returns
 returns c = too-short _ _ (omega arith)
 
-slice-write-answer : tie.Need-slice-write-answer
-slice-write-answer c = search needs
-
 slice-write-answer-2 : tie.Need-slice-write-answer-2
 slice-write-answer-2 c = simp length-set (omega arith)
 
@@ -34,9 +31,6 @@ slice-write-answer-7 c = simp length-set (omega arith)
 slice-write-answer-8 : tie.Need-slice-write-answer-8
 slice-write-answer-8 c = simp length-set (omega arith)
 
-same-length : tie.Need-same-length
-same-length c = search needs
-
 returns-2 : tie.Need-returns-2
 returns-2 c = filled _ _ refl (omega arith)
 
@@ -45,7 +39,7 @@ store-spec =
     tie.close
     (tie.spec
     returns
-    slice-write-answer
+    (λ c. search needs)
     slice-write-answer-2
     slice-write-answer-3
     slice-write-answer-4
@@ -53,5 +47,5 @@ store-spec =
     slice-write-answer-6
     slice-write-answer-7
     slice-write-answer-8
-    same-length
+    (λ c. search needs)
     returns-2)

@@ -3,18 +3,9 @@ use borrow.Author.Needs.{needs}
 use Rattle.capi.proofs.sources.stivlaheim_source_from_reader.Statement.{statement}
 use Rattle.capi.proofs.sources.stivlaheim_source_from_reader.Tie as tie
 
-from-reader-requires : tie.Need-from-reader-requires
-from-reader-requires c κs = search needs
-
-begin-requires : tie.Need-begin-requires
-begin-requires c κs = search needs
-
-same-length : tie.Need-same-length
-same-length c = search needs
-
 returns : tie.Need-returns
 returns c = rw (← c .before .before .before .from-reader .ensures) (c .before .before .begin .ensures)
 
 pub stivlaheim-source-from-reader-spec : {M : Type 1} → statement M
 stivlaheim-source-from-reader-spec =
-    tie.close (tie.spec from-reader-requires begin-requires same-length returns)
+    tie.close (tie.spec (λ c κs. search needs) (λ c κs. search needs) (λ c. search needs) returns)

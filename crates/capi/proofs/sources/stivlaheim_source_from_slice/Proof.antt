@@ -3,18 +3,9 @@ use borrow.Author.Needs.{needs}
 use Rattle.capi.proofs.sources.stivlaheim_source_from_slice.Statement.{statement}
 use Rattle.capi.proofs.sources.stivlaheim_source_from_slice.Tie as tie
 
-from-slice-requires : tie.Need-from-slice-requires
-from-slice-requires c κs = search needs
-
-begin-requires : tie.Need-begin-requires
-begin-requires c κs = search needs
-
-same-length : tie.Need-same-length
-same-length c = search needs
-
 returns : tie.Need-returns
 returns c = rw (← c .before .before .before .from-slice .ensures) (c .before .before .begin .ensures)
 
 pub stivlaheim-source-from-slice-spec : {M : Type 1} → statement M
 stivlaheim-source-from-slice-spec =
-    tie.close (tie.spec from-slice-requires begin-requires same-length returns)
+    tie.close (tie.spec (λ c κs. search needs) (λ c κs. search needs) (λ c. search needs) returns)

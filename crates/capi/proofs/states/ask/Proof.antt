@@ -15,15 +15,9 @@ returns-2 : tie.Need-returns-2
 unfolding asked
 returns-2 c = rw (le-leb 8 _ (c .before .if1 .left), lt-leb 6 _ (c .if2 .taken))
 
-shared-slice-read-if3 : tie.Need-shared-slice-read-if3
-shared-slice-read-if3 c = search needs
-
 returns-3 : tie.Need-returns-3
 unfolding asked
 returns-3 c = rw (le-leb 8 _ (c .before .before .before .if1 .left), le-leb 6 _ (c .before .before .if2 .left), lt-leb _ 1 (c .if3 .taken))
-
-of-words-requires : tie.Need-of-words-requires
-of-words-requires c κs = search needs
 
 returns-4 : tie.Need-returns-4
 unfolding asked
@@ -32,4 +26,4 @@ returns-4 c = rw (le-leb 8 _ (c .before .before .before .before .if1 .left), le-
 pub ask-spec : {M : Type 1} → statement M
 ask-spec =
     tie.close
-    (tie.spec returns returns-2 shared-slice-read-if3 returns-3 of-words-requires returns-4)
+    (tie.spec returns returns-2 (λ c. search needs) returns-3 (λ c κs. search needs) returns-4)

@@ -9,15 +9,9 @@ returns : tie.Need-returns
 unfolding begun
 returns c = rw (lt-leb 6 _ (c .if1 .taken))
 
-put-requires : tie.Need-put-requires
-put-requires c κs = search needs
-
-same-length : tie.Need-same-length
-same-length c = search needs
-
 returns-2 : tie.Need-returns-2
 unfolding begun
 returns-2 c = rw (le-leb 6 _ (c .before .before .before .before .if1 .left), c .before .before .put .ensures)
 
 pub begin-spec : {M : Type 1} → statement M
-begin-spec = tie.close (tie.spec returns put-requires same-length returns-2)
+begin-spec = tie.close (tie.spec returns (λ c κs. search needs) (λ c. search needs) returns-2)

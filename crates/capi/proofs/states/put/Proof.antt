@@ -6,9 +6,6 @@ use borrow.Author.Needs.{needs}
 use Rattle.capi.proofs.states.put.Statement.{statement}
 use Rattle.capi.proofs.states.put.Tie as tie
 
-slice-write-state : tie.Need-slice-write-state
-slice-write-state c = search needs
-
 slice-write-state-2 : tie.Need-slice-write-state-2
 slice-write-state-2 c = simp length-set (omega arith)
 
@@ -21,14 +18,8 @@ slice-write-state-4 c = simp length-set (omega arith)
 slice-write-state-5 : tie.Need-slice-write-state-5
 slice-write-state-5 c = simp length-set (omega arith)
 
-of-bool-requires : tie.Need-of-bool-requires
-of-bool-requires c κs = search needs
-
 slice-write-state-6 : tie.Need-slice-write-state-6
 slice-write-state-6 c = simp length-set (omega arith)
-
-same-length : tie.Need-same-length
-same-length c = search needs
 
 returns : tie.Need-returns
 returns c =
@@ -39,12 +30,12 @@ pub put-spec : {M : Type 1} → statement M
 put-spec =
     tie.close
     (tie.spec
-    slice-write-state
+    (λ c. search needs)
     slice-write-state-2
     slice-write-state-3
     slice-write-state-4
     slice-write-state-5
-    of-bool-requires
+    (λ c κs. search needs)
     slice-write-state-6
-    same-length
+    (λ c. search needs)
     returns)

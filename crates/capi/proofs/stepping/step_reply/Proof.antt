@@ -7,24 +7,6 @@ use borrow.Author.Needs.{needs}
 use Rattle.capi.proofs.stepping.step_reply.Statement.{statement}
 use Rattle.capi.proofs.stepping.step_reply.Tie as tie
 
-enum-known-x : tie.Need-enum-known-x
-enum-known-x c = search needs
-
-kind-number-requires : tie.Need-kind-number-requires
-kind-number-requires c κs = search needs
-
-cast-answered : tie.Need-cast-answered
-cast-answered c = search needs
-
-answered-requires : tie.Need-answered-requires
-answered-requires c κs = search needs
-
-enum-told : tie.Need-enum-told
-enum-told c = search needs
-
-absent-requires : tie.Need-absent-requires
-absent-requires c κs = search needs
-
 returns : tie.Need-returns
 returns c =
     rw (c .before .before .before .x .given .1) (c .answered .ensures ∙ ap (λ (m : ℕ). answered (c .before .before .before .x .given .0 .1 .0) (m ∷ [])) (c .before .kind-number .ensures))
@@ -36,11 +18,11 @@ pub step-reply-spec : {M : Type 1} → statement M
 step-reply-spec =
     tie.close
     (tie.spec
-    enum-known-x
-    kind-number-requires
-    cast-answered
-    answered-requires
-    enum-told
-    absent-requires
+    (λ c. search needs)
+    (λ c κs. search needs)
+    (λ c. search needs)
+    (λ c κs. search needs)
+    (λ c. search needs)
+    (λ c κs. search needs)
     returns
     returns-2)

@@ -16,18 +16,6 @@ returns-2 c = (
 step-requires : tie.Need-step-requires
 step-requires c κs = search needs
 
-step-reply-requires : tie.Need-step-reply-requires
-step-reply-requires c κs = search needs
-
-store-requires : tie.Need-store-requires
-store-requires c κs = search needs
-
-same-length : tie.Need-same-length
-same-length c = search needs
-
-same-length-2 : tie.Need-same-length-2
-same-length-2 c = search needs
-
 returns-3 : tie.Need-returns-3
 returns-3 c = (
   rw (le-leb 8 _ (c .before .before .before .before .before .before .before .before .before .before .if1 .left), eq-eqb _ 8 (c .before .before .before .before .before .before .before .before .before .if2 .left), ← c .before .before .before .before .before .before .before .step .ensures .0, ← c .before .before .before .step-reply .ensures) (c .before .before .store .ensures),
@@ -41,8 +29,8 @@ stivlaheim-next-token-fast-spec =
     returns
     returns-2
     step-requires
-    step-reply-requires
-    store-requires
-    same-length
-    same-length-2
+    (λ c κs. search needs)
+    (λ c κs. search needs)
+    (λ c. search needs)
+    (λ c. search needs)
     returns-3)

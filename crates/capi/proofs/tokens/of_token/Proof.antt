@@ -8,117 +8,6 @@ use borrow.Author.Needs.{needs}
 use Rattle.capi.proofs.tokens.of_token.Statement.{statement}
 use Rattle.capi.proofs.tokens.of_token.Tie as tie
 
-enum-told : tie.Need-enum-told
-enum-told c = search needs
-
-answered-requires : tie.Need-answered-requires
-answered-requires c κs = search needs
-
-enum-told-2 : tie.Need-enum-told-2
-enum-told-2 c = search needs
-
-answered-requires-2 : tie.Need-answered-requires-2
-answered-requires-2 c κs = search needs
-
-enum-told-3 : tie.Need-enum-told-3
-enum-told-3 c = search needs
-
-answered-requires-3 : tie.Need-answered-requires-3
-answered-requires-3 c κs = search needs
-
-enum-known-t : tie.Need-enum-known-t
-enum-known-t c = search needs
-
-cast-answered : tie.Need-cast-answered
-cast-answered c = search needs
-
-answered-requires-4 : tie.Need-answered-requires-4
-answered-requires-4 c κs = search needs
-
-enum-known-t-2 : tie.Need-enum-known-t-2
-enum-known-t-2 c = search needs
-
-answered-requires-5 : tie.Need-answered-requires-5
-answered-requires-5 c κs = search needs
-
-enum-known-t-3 : tie.Need-enum-known-t-3
-enum-known-t-3 c = search needs
-
-of-i32-requires : tie.Need-of-i32-requires
-of-i32-requires c κs = search needs
-
-answered-requires-6 : tie.Need-answered-requires-6
-answered-requires-6 c κs = search needs
-
-enum-known-t-4 : tie.Need-enum-known-t-4
-enum-known-t-4 c = search needs
-
-of-bool-requires : tie.Need-of-bool-requires
-of-bool-requires c κs = search needs
-
-answered-requires-7 : tie.Need-answered-requires-7
-answered-requires-7 c κs = search needs
-
-enum-known-t-5 : tie.Need-enum-known-t-5
-enum-known-t-5 c = search needs
-
-answered-requires-8 : tie.Need-answered-requires-8
-answered-requires-8 c κs = search needs
-
-enum-known-t-6 : tie.Need-enum-known-t-6
-enum-known-t-6 c = search needs
-
-answered-requires-9 : tie.Need-answered-requires-9
-answered-requires-9 c κs = search needs
-
-enum-known-t-7 : tie.Need-enum-known-t-7
-enum-known-t-7 c = search needs
-
-cast-answered-2 : tie.Need-cast-answered-2
-cast-answered-2 c = search needs
-
-answered-requires-10 : tie.Need-answered-requires-10
-answered-requires-10 c κs = search needs
-
-enum-known-t-8 : tie.Need-enum-known-t-8
-enum-known-t-8 c = search needs
-
-answered-requires-11 : tie.Need-answered-requires-11
-answered-requires-11 c κs = search needs
-
-enum-known-t-9 : tie.Need-enum-known-t-9
-enum-known-t-9 c = search needs
-
-of-rgb-requires : tie.Need-of-rgb-requires
-of-rgb-requires c κs = search needs
-
-enum-known-t-10 : tie.Need-enum-known-t-10
-enum-known-t-10 c = search needs
-
-of-i64-requires : tie.Need-of-i64-requires
-of-i64-requires c κs = search needs
-
-answered-requires-12 : tie.Need-answered-requires-12
-answered-requires-12 c κs = search needs
-
-enum-known-t-11 : tie.Need-enum-known-t-11
-enum-known-t-11 c = search needs
-
-cast-answered-3 : tie.Need-cast-answered-3
-cast-answered-3 c = search needs
-
-answered-requires-13 : tie.Need-answered-requires-13
-answered-requires-13 c κs = search needs
-
-enum-known-t-12 : tie.Need-enum-known-t-12
-enum-known-t-12 c = search needs
-
-cast-answered-4 : tie.Need-cast-answered-4
-cast-answered-4 c = search needs
-
-answered-requires-14 : tie.Need-answered-requires-14
-answered-requires-14 c κs = search needs
-
 returns : tie.Need-returns
 unfolding kind valueOf
 returns c = rw (c .before .enum-told .given .1) (c .answered .ensures)
@@ -189,43 +78,43 @@ pub of-token-spec : {M : Type 1} → statement M
 of-token-spec =
     tie.close
     (tie.spec
-    enum-told
-    answered-requires
-    enum-told-2
-    answered-requires-2
-    enum-told-3
-    answered-requires-3
-    enum-known-t
-    cast-answered
-    answered-requires-4
-    enum-known-t-2
-    answered-requires-5
-    enum-known-t-3
-    of-i32-requires
-    answered-requires-6
-    enum-known-t-4
-    of-bool-requires
-    answered-requires-7
-    enum-known-t-5
-    answered-requires-8
-    enum-known-t-6
-    answered-requires-9
-    enum-known-t-7
-    cast-answered-2
-    answered-requires-10
-    enum-known-t-8
-    answered-requires-11
-    enum-known-t-9
-    of-rgb-requires
-    enum-known-t-10
-    of-i64-requires
-    answered-requires-12
-    enum-known-t-11
-    cast-answered-3
-    answered-requires-13
-    enum-known-t-12
-    cast-answered-4
-    answered-requires-14
+    (λ c. search needs)
+    (λ c κs. search needs)
+    (λ c. search needs)
+    (λ c κs. search needs)
+    (λ c. search needs)
+    (λ c κs. search needs)
+    (λ c. search needs)
+    (λ c. search needs)
+    (λ c κs. search needs)
+    (λ c. search needs)
+    (λ c κs. search needs)
+    (λ c. search needs)
+    (λ c κs. search needs)
+    (λ c κs. search needs)
+    (λ c. search needs)
+    (λ c κs. search needs)
+    (λ c κs. search needs)
+    (λ c. search needs)
+    (λ c κs. search needs)
+    (λ c. search needs)
+    (λ c κs. search needs)
+    (λ c. search needs)
+    (λ c. search needs)
+    (λ c κs. search needs)
+    (λ c. search needs)
+    (λ c κs. search needs)
+    (λ c. search needs)
+    (λ c κs. search needs)
+    (λ c. search needs)
+    (λ c κs. search needs)
+    (λ c κs. search needs)
+    (λ c. search needs)
+    (λ c. search needs)
+    (λ c κs. search needs)
+    (λ c. search needs)
+    (λ c. search needs)
+    (λ c κs. search needs)
     returns
     returns-2
     returns-3

@@ -13,33 +13,9 @@ returns-2 : tie.Need-returns-2
 unfolding givenToken writeReturns writeLeaves
 returns-2 c = (rw (lt-leb 5 _ (c .if2 .taken), le-leb 8 _ (c .before .if1 .left)), rw (lt-leb 5 _ (c .if2 .taken)))
 
-of-words-requires : tie.Need-of-words-requires
-of-words-requires c κs = search needs
-
-enum-known-g : tie.Need-enum-known-g
-enum-known-g c = search needs
-
-enum-told : tie.Need-enum-told
-enum-told c = search needs
-
 returns-3 : tie.Need-returns-3
 unfolding givenToken writeReturns writeLeaves
 returns-3 c = (rw (le-leb 5 _ (c .before .before .before .if2 .left), ← c .before .before .of-words .ensures, c .enum-told .given .1, le-leb 8 _ (c .before .before .before .before .if1 .left)), rw (le-leb 5 _ (c .before .before .before .if2 .left), ← c .before .before .of-words .ensures, c .enum-told .given .1))
-
-write-requires : tie.Need-write-requires
-write-requires c κs = search needs
-
-wrote-reply-requires : tie.Need-wrote-reply-requires
-wrote-reply-requires c κs = search needs
-
-store-requires : tie.Need-store-requires
-store-requires c κs = search needs
-
-same-length : tie.Need-same-length
-same-length c = search needs
-
-same-length-2 : tie.Need-same-length-2
-same-length-2 c = search needs
 
 returns-4 : tie.Need-returns-4
 unfolding givenToken writeReturns writeLeaves
@@ -54,13 +30,13 @@ stivlaheim-write-spec =
     (tie.spec
     returns
     returns-2
-    of-words-requires
-    enum-known-g
-    enum-told
+    (λ c κs. search needs)
+    (λ c. search needs)
+    (λ c. search needs)
     returns-3
-    write-requires
-    wrote-reply-requires
-    store-requires
-    same-length
-    same-length-2
+    (λ c κs. search needs)
+    (λ c κs. search needs)
+    (λ c κs. search needs)
+    (λ c. search needs)
+    (λ c. search needs)
     returns-4)

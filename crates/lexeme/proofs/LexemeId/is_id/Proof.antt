@@ -32,12 +32,6 @@ tag-number I64 = refl
 tag-number Lookup = refl
 tag-number Id = refl
 
-into-kind-requires : tie.Need-into-kind-requires
-into-kind-requires c κs = search needs
-
-enum-told : tie.Need-enum-told
-enum-told c = search needs
-
 returns : tie.Need-returns
 returns c = ap isId (sym (c .enum-told .given .1) ∙ c .before .before .into-kind .ensures) ∙ id-plain _
 
@@ -45,4 +39,4 @@ returns-2 : tie.Need-returns-2
 returns-2 c = sym (sym (id-plain _) ∙ ap isId (sym (c .before .into-kind .ensures)) ∙ ap (λ t. eqb t 14) (sym (tag-number (c .before .into-kind .result))) ∙ arm (λ t. eqb t 14) (0 ∷ 1 ∷ 2 ∷ 3 ∷ 4 ∷ 5 ∷ 6 ∷ 7 ∷ 8 ∷ 9 ∷ 10 ∷ 11 ∷ 12 ∷ 13 ∷ []) (refl, (refl, (refl, (refl, (refl, (refl, (refl, (refl, (refl, (refl, (refl, (refl, (refl, (refl, tt)))))))))))))) (c .match .keys2))
 
 pub is-id-spec : {M : Type 1} → statement M
-is-id-spec = tie.close (tie.spec into-kind-requires enum-told returns returns-2)
+is-id-spec = tie.close (tie.spec (λ c κs. search needs) (λ c. search needs) returns returns-2)

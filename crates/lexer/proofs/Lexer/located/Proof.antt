@@ -7,12 +7,9 @@ use Rattle.lexer.specs.Calls.{refusalOf}
 use Rattle.lexer.proofs.Lexer.located.Statement.{statement}
 use Rattle.lexer.proofs.Lexer.located.Tie as tie
 
-position-requires : tie.Need-position-requires
-position-requires c κs = search needs
-
 returns : tie.Need-returns
 unfolding refusalOf
 returns c = ap (λ p. refusalAt p (faultOf (c .before .args .e))) (c .position .ensures)
 
 pub located-spec : {M : Type 1} → statement M
-located-spec = tie.close (tie.spec position-requires returns)
+located-spec = tie.close (tie.spec (λ c κs. search needs) returns)

@@ -7,15 +7,6 @@ use Rattle.lexer.proofs.Laws.{told, next-got, next-end, next-cut}
 use Rattle.lexer.proofs.Lexer.next_id.Statement.{statement}
 use Rattle.lexer.proofs.Lexer.next_id.Tie as tie
 
-read-id-requires : tie.Need-read-id-requires
-read-id-requires c κs = search needs
-
-enum-known-r : tie.Need-enum-known-r
-enum-known-r c = search needs
-
-enum-known-r-2 : tie.Need-enum-known-r-2
-enum-known-r-2 c = search needs
-
 returns : tie.Need-returns
 returns c = next-got _ _ _ (num-inside 2 (omega arith)) (told (idCall _) (c .before .before .before .read-id .ensures) (c .before .r .given .1))
 
@@ -27,4 +18,4 @@ returns-3 c = next-cut _ _ _ (c .if1 .left) (told (idCall _) (c .before .before 
 
 pub next-id-spec : {M : Type 1} → statement M
 next-id-spec =
-    tie.close (tie.spec read-id-requires enum-known-r enum-known-r-2 returns returns-2 returns-3)
+    tie.close (tie.spec (λ c κs. search needs) (λ c. search needs) (λ c. search needs) returns returns-2 returns-3)

@@ -5,15 +5,6 @@ use Rattle.lexer.proofs.Laws.{told, token-begins, next-got, next-end, n
 use Rattle.lexer.proofs.Lexer.next_token.Statement.{statement}
 use Rattle.lexer.proofs.Lexer.next_token.Tie as tie
 
-read-token-requires : tie.Need-read-token-requires
-read-token-requires c κs = search needs
-
-enum-known-r : tie.Need-enum-known-r
-enum-known-r c = search needs
-
-enum-known-r-2 : tie.Need-enum-known-r-2
-enum-known-r-2 c = search needs
-
 returns : tie.Need-returns
 returns c = next-got _ _ _ token-begins (told (tokenCall _) (c .before .before .before .read-token .ensures) (c .before .r .given .1))
 
@@ -25,4 +16,4 @@ returns-3 c = next-cut _ _ _ (c .if1 .left) (told (tokenCall _) (c .before .befo
 
 pub next-token-spec : {M : Type 1} → statement M
 next-token-spec =
-    tie.close (tie.spec read-token-requires enum-known-r enum-known-r-2 returns returns-2 returns-3)
+    tie.close (tie.spec (λ c κs. search needs) (λ c. search needs) (λ c. search needs) returns returns-2 returns-3)

@@ -5,21 +5,6 @@ use Rattle.lexer.proofs.Laws.{told, peek-got, peek-none, peek-bad}
 use Rattle.lexer.proofs.Lexer.peek_id.Statement.{statement}
 use Rattle.lexer.proofs.Lexer.peek_id.Tie as tie
 
-read-id-requires : tie.Need-read-id-requires
-read-id-requires c κs = search needs
-
-enum-known-r : tie.Need-enum-known-r
-enum-known-r c = search needs
-
-enum-known-r-2 : tie.Need-enum-known-r-2
-enum-known-r-2 c = search needs
-
-enum-told : tie.Need-enum-told
-enum-told c = search needs
-
-enum-told-2 : tie.Need-enum-told-2
-enum-told-2 c = search needs
-
 returns : tie.Need-returns
 returns c = peek-got _ _ _ (told (idCall _) (c .before .before .before .read-id .ensures) (c .before .r .given .1))
 
@@ -33,11 +18,11 @@ pub peek-id-spec : {M : Type 1} → statement M
 peek-id-spec =
     tie.close
     (tie.spec
-    read-id-requires
-    enum-known-r
-    enum-known-r-2
-    enum-told
-    enum-told-2
+    (λ c κs. search needs)
+    (λ c. search needs)
+    (λ c. search needs)
+    (λ c. search needs)
+    (λ c. search needs)
     returns
     returns-2
     returns-3)

@@ -6,21 +6,6 @@ use Rattle.lexer.proofs.Laws.{told}
 use Rattle.lexer.proofs.Lexer.read_bytes_part.Statement.{statement}
 use Rattle.lexer.proofs.Lexer.read_bytes_part.Tie as tie
 
-read-bytes-requires : tie.Need-read-bytes-requires
-read-bytes-requires c κs = search needs
-
-enum-known-r : tie.Need-enum-known-r
-enum-known-r c = search needs
-
-text-part-requires : tie.Need-text-part-requires
-text-part-requires c κs = search needs
-
-enum-told : tie.Need-enum-told
-enum-told c = search needs
-
-slice-aggregate-result : tie.Need-slice-aggregate-result
-slice-aggregate-result c = search needs
-
 returns : tie.Need-returns
 returns c = c .text-part .ensures ∙ ap (partOf _) (told (stringCall _) (c .before .before .before .before .read-bytes .ensures) (c .before .before .r .given .1))
 
@@ -31,10 +16,10 @@ pub read-bytes-part-spec : {M : Type 1} → statement M
 read-bytes-part-spec =
     tie.close
     (tie.spec
-    read-bytes-requires
-    enum-known-r
-    text-part-requires
-    enum-told
-    slice-aggregate-result
+    (λ c κs. search needs)
+    (λ c. search needs)
+    (λ c κs. search needs)
+    (λ c. search needs)
+    (λ c. search needs)
     returns
     returns-2)

@@ -13,26 +13,8 @@ use Rattle.lexer.proofs.Laws.{got, cut}
 use Rattle.lexer.proofs.Lexer.read_i32.Statement.{statement}
 use Rattle.lexer.proofs.Lexer.read_i32.Tie as tie
 
-read-i32-requires : tie.Need-read-i32-requires
-read-i32-requires c κs = search needs
-
-enum-known-r : tie.Need-enum-known-r
-enum-known-r c = search needs
-
-enum-told : tie.Need-enum-told
-enum-told c = search needs
-
-refusal-requires : tie.Need-refusal-requires
-refusal-requires c κs = search needs
-
-refused-requires : tie.Need-refused-requires
-refused-requires c κs = search needs
-
 returns : tie.Need-returns
 returns c = cut _ _ _ (elseOf i32Answer (c .before .before .before .before .read-i32 .ensures) (c .before .before .enum-told .given .1) (c .before .refusal .ensures) refl) (c .refused .ensures)
-
-moved-requires : tie.Need-moved-requires
-moved-requires c κs = search needs
 
 returns-2 : tie.Need-returns-2
 returns-2 c =
@@ -44,11 +26,11 @@ pub read-i32-spec : {M : Type 1} → statement M
 read-i32-spec =
     tie.close
     (tie.spec
-    read-i32-requires
-    enum-known-r
-    enum-told
-    refusal-requires
-    refused-requires
+    (λ c κs. search needs)
+    (λ c. search needs)
+    (λ c. search needs)
+    (λ c κs. search needs)
+    (λ c κs. search needs)
     returns
-    moved-requires
+    (λ c κs. search needs)
     returns-2)

@@ -7,18 +7,6 @@ use Rattle.lexer.proofs.Laws.{told, within-in, inside, outside}
 use Rattle.lexer.proofs.Lexer.refused.Statement.{statement}
 use Rattle.lexer.proofs.Lexer.refused.Tie as tie
 
-place-requires : tie.Need-place-requires
-place-requires c κs = search needs
-
-enum-told : tie.Need-enum-told
-enum-told c = search needs
-
-located-requires : tie.Need-located-requires
-located-requires c κs = search needs
-
-enum-known-p : tie.Need-enum-known-p
-enum-known-p c = search needs
-
 returns : tie.Need-returns
 unfolding reads ended
 returns c =
@@ -34,4 +22,4 @@ returns-2 c =
 
 pub refused-spec : {M : Type 1} → statement M
 refused-spec =
-    tie.close (tie.spec place-requires enum-told located-requires enum-known-p returns returns-2)
+    tie.close (tie.spec (λ c κs. search needs) (λ c. search needs) (λ c κs. search needs) (λ c. search needs) returns returns-2)

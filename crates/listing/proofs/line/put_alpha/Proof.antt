@@ -7,24 +7,9 @@ use borrow.Author.Needs.{needs}
 use Rattle.listing.proofs.line.put_alpha.Statement.{statement}
 use Rattle.listing.proofs.line.put_alpha.Tie as tie
 
-enum-told : tie.Need-enum-told
-enum-told c = search needs
-
-enum-known-a : tie.Need-enum-known-a
-enum-known-a c = search needs
-
-cast-put-number : tie.Need-cast-put-number
-cast-put-number c = search needs
-
-put-number-requires : tie.Need-put-number-requires
-put-number-requires c κs = search needs
-
 returns : tie.Need-returns
 unfolding alphaWords spaced
 returns c = rw (c .enum-told .given .1) (put-none _ _ (omega arith))
-
-same-length : tie.Need-same-length
-same-length c = search needs
 
 returns-2 : tie.Need-returns-2
 unfolding alphaWords
@@ -34,10 +19,10 @@ pub put-alpha-spec : {M : Type 1} → statement M
 put-alpha-spec =
     tie.close
     (tie.spec
-    enum-told
-    enum-known-a
-    cast-put-number
-    put-number-requires
+    (λ c. search needs)
+    (λ c. search needs)
+    (λ c. search needs)
+    (λ c κs. search needs)
     returns
-    same-length
+    (λ c. search needs)
     returns-2)

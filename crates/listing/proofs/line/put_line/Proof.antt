@@ -13,12 +13,6 @@ use borrow.Author.Needs.{needs}
 use Rattle.listing.proofs.line.put_line.Statement.{statement}
 use Rattle.listing.proofs.line.put_line.Tie as tie
 
-parts-of-requires : tie.Need-parts-of-requires
-parts-of-requires c κs = search needs
-
-put-decimal-requires : tie.Need-put-decimal-requires
-put-decimal-requires c κs = search needs
-
 array-share-prefix-name : tie.Need-array-share-prefix-name
 array-share-prefix-name c =
     let l : c .before .before .before .before .before .before .parts-of .result .len ≤ length (c .before .before .before .before .before .before .parts-of .result .name) = rw (c .before .before .before .before .before .before .parts-of .ensures) (short (c .before .before .before .before .before .before .before .before .before .args .t)) in
@@ -26,18 +20,6 @@ array-share-prefix-name c =
 
 slice-aggregate-put-word : tie.Need-slice-aggregate-put-word
 slice-aggregate-put-word c = sym (length-take-le _ _ (rw (c .before .before .before .before .before .before .before .parts-of .ensures) (short (c .before .before .before .before .before .before .before .before .before .before .args .t))))
-
-put-word-requires : tie.Need-put-word-requires
-put-word-requires c κs = search needs
-
-put-shape-requires : tie.Need-put-shape-requires
-put-shape-requires c κs = search needs
-
-put-requires : tie.Need-put-requires
-put-requires c κs = search needs
-
-same-length : tie.Need-same-length
-same-length c = search needs
 
 returns : tie.Need-returns
 unfolding lineOf line
@@ -47,12 +29,12 @@ pub put-line-spec : {M : Type 1} → statement M
 put-line-spec =
     tie.close
     (tie.spec
-    parts-of-requires
-    put-decimal-requires
+    (λ c κs. search needs)
+    (λ c κs. search needs)
     array-share-prefix-name
     slice-aggregate-put-word
-    put-word-requires
-    put-shape-requires
-    put-requires
-    same-length
+    (λ c κs. search needs)
+    (λ c κs. search needs)
+    (λ c κs. search needs)
+    (λ c. search needs)
     returns)

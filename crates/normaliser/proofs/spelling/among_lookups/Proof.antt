@@ -13,62 +13,11 @@ use Rattle.normaliser.proofs.Spelled.{number-arm, lookup-arm, float-arm
 use Rattle.normaliser.proofs.spelling.among_lookups.Statement.{statement}
 use Rattle.normaliser.proofs.spelling.among_lookups.Tie as tie
 
-fixed-requires : tie.Need-fixed-requires
-fixed-requires c κs = search needs
-
-read-lookup-u8-requires : tie.Need-read-lookup-u8-requires
-read-lookup-u8-requires c κs = search needs
-
-lookup-u8-requires : tie.Need-lookup-u8-requires
-lookup-u8-requires c κs = search needs
-
-read-lookup-u16-requires : tie.Need-read-lookup-u16-requires
-read-lookup-u16-requires c κs = search needs
-
-lookup-u16-requires : tie.Need-lookup-u16-requires
-lookup-u16-requires c κs = search needs
-
-read-lookup-u24-requires : tie.Need-read-lookup-u24-requires
-read-lookup-u24-requires c κs = search needs
-
-lookup-requires : tie.Need-lookup-requires
-lookup-requires c κs = search needs
-
-read-lookup-u32-requires : tie.Need-read-lookup-u32-requires
-read-lookup-u32-requires c κs = search needs
-
-lookup-requires-2 : tie.Need-lookup-requires-2
-lookup-requires-2 c κs = search needs
-
-returns : tie.Need-returns
-returns c = search needs
-
-cast-width : tie.Need-cast-width
-cast-width c = search needs
-
-read-compact-f64-requires : tie.Need-read-compact-f64-requires
-read-compact-f64-requires c κs = search needs
-
-float-requires : tie.Need-float-requires
-float-requires c κs = search needs
-
 returns-2 : tie.Need-returns-2
 returns-2 c p e =
     let a = c .before .before .before .before .before .before .args in
     let h : a .n < 0x0d4f = omega (arith, c .before .before .if2 .taken) in
     float-arm (a .bytes .now) (c .before .before .before .before .before .shared-slice-known .given) p e (signedBy false) (compact-in (a .n) (c .before .before .before .if1 .left) h ∙ compact-is (a .n) 0x0d47 false h) (c .float .result) (rw (c .before .read-compact-f64 .ensures) at (c .float .ensures))
-
-sub-width : tie.Need-sub-width
-sub-width c = search needs
-
-cast-width-2 : tie.Need-cast-width-2
-cast-width-2 c = search needs
-
-read-compact-f64-requires-2 : tie.Need-read-compact-f64-requires-2
-read-compact-f64-requires-2 c κs = search needs
-
-float-requires-2 : tie.Need-float-requires-2
-float-requires-2 c κs = search needs
 
 returns-3 : tie.Need-returns-3
 returns-3 c p e =
@@ -101,35 +50,32 @@ returns-8 c p e =
     let a = c .before .before .before .before .args in
     lookup-arm (a .bytes .now) (c .before .before .before .shared-slice-known .given) p e (lookup4-at (c .before .before .match .keys5)) (c .lookup2 .result) (rw (c .before .read-lookup-u32 .ensures) at (c .lookup2 .ensures))
 
-returns-9 : tie.Need-returns-9
-returns-9 c = search needs
-
 pub among-lookups-spec : {M : Type 1} → statement M
 among-lookups-spec =
     tie.close
     (tie.spec
-    fixed-requires
-    read-lookup-u8-requires
-    lookup-u8-requires
-    read-lookup-u16-requires
-    lookup-u16-requires
-    read-lookup-u24-requires
-    lookup-requires
-    read-lookup-u32-requires
-    lookup-requires-2
-    returns
-    cast-width
-    read-compact-f64-requires
-    float-requires
+    (λ c κs. search needs)
+    (λ c κs. search needs)
+    (λ c κs. search needs)
+    (λ c κs. search needs)
+    (λ c κs. search needs)
+    (λ c κs. search needs)
+    (λ c κs. search needs)
+    (λ c κs. search needs)
+    (λ c κs. search needs)
+    (λ c. search needs)
+    (λ c. search needs)
+    (λ c κs. search needs)
+    (λ c κs. search needs)
     returns-2
-    sub-width
-    cast-width-2
-    read-compact-f64-requires-2
-    float-requires-2
+    (λ c. search needs)
+    (λ c. search needs)
+    (λ c κs. search needs)
+    (λ c κs. search needs)
     returns-3
     returns-4
     returns-5
     returns-6
     returns-7
     returns-8
-    returns-9)
+    (λ c. search needs))

@@ -6,24 +6,6 @@ use Rattle.payload.proofs.Laws.{gotOf}
 use Rattle.normaliser.proofs.spelling.colour.Statement.{statement}
 use Rattle.normaliser.proofs.spelling.colour.Tie as tie
 
-sub-read-rgb : tie.Need-sub-read-rgb
-sub-read-rgb c = search needs
-
-part-read-rgb-start : tie.Need-part-read-rgb-start
-part-read-rgb-start c = search needs
-
-part-read-rgb-end : tie.Need-part-read-rgb-end
-part-read-rgb-end c = search needs
-
-read-rgb-requires : tie.Need-read-rgb-requires
-read-rgb-requires c κs = search needs
-
-enum-known-read : tie.Need-enum-known-read
-enum-known-read c = search needs
-
-enum-told : tie.Need-enum-told
-enum-told c = search needs
-
 returns : tie.Need-returns
 returns c = tt
 
@@ -33,4 +15,4 @@ returns-2 c = (_, gotOf rgbAnswer (rw (part-to-end (c .before .before .before .b
 pub colour-spec : {M : Type 1} → statement M
 colour-spec =
     tie.close
-    (tie.spec sub-read-rgb part-read-rgb-start part-read-rgb-end read-rgb-requires enum-known-read enum-told returns returns-2)
+    (tie.spec (λ c. search needs) (λ c. search needs) (λ c. search needs) (λ c κs. search needs) (λ c. search needs) (λ c. search needs) returns returns-2)

@@ -7,9 +7,6 @@ use Rattle.split.proofs.Laws.{there}
 use Rattle.normaliser.proofs.spelling.fixed.Statement.{statement}
 use Rattle.normaliser.proofs.spelling.fixed.Tie as tie
 
-has-requires : tie.Need-has-requires
-has-requires c κs = search needs
-
 returns : tie.Need-returns
 returns c = tt
 
@@ -25,4 +22,4 @@ returns-2 c =
     (_, num-lt (a .width) (a .bytes .now) (a .at) (c .before .before .shared-slice-known .given) e, e)
 
 pub fixed-spec : {M : Type 1} → statement M
-fixed-spec = tie.close (tie.spec has-requires returns add-end returns-2)
+fixed-spec = tie.close (tie.spec (λ c κs. search needs) returns add-end returns-2)

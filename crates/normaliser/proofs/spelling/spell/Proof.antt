@@ -17,35 +17,8 @@ use Rattle.normaliser.proofs.spelling.spell.Tie as tie
 abbrev arms : List (List ℕ)
 arms = texts ∷ fours ∷ floats ∷ eights ∷ truths ∷ colours ∷ []
 
-read-id-requires : tie.Need-read-id-requires
-read-id-requires c κs = search needs
-
-enum-known-read : tie.Need-enum-known-read
-enum-known-read c = search needs
-
-enum-told : tie.Need-enum-told
-enum-told c = search needs
-
 returns : tie.Need-returns
 returns c = tt
-
-string-requires : tie.Need-string-requires
-string-requires c κs = search needs
-
-fixed-requires : tie.Need-fixed-requires
-fixed-requires c κs = search needs
-
-fixed-requires-2 : tie.Need-fixed-requires-2
-fixed-requires-2 c κs = search needs
-
-fixed-requires-3 : tie.Need-fixed-requires-3
-fixed-requires-3 c κs = search needs
-
-truth-requires : tie.Need-truth-requires
-truth-requires c κs = search needs
-
-colour-requires : tie.Need-colour-requires
-colour-requires c κs = search needs
 
 returns-2 : tie.Need-returns-2
 unfolding after orPlain find entries table tag body wide kind writable idOf findId alike sample
@@ -58,9 +31,6 @@ unfolding after orPlain find entries table tag body wide kind writable idOf find
 returns-3 c =
     let a = c .before .before .before .before .before .before .before .before .args in
     alone-arm (a .bytes .now) (c .before .before .before .before .before .before .before .shared-slice-known .given) (a .at) (gotOf idAnswer (c .before .before .before .before .before .before .read-id .ensures) (c .before .before .before .before .read .given .1)) (alone-above arms refl _ (c .before .before .match2 .rest) (c .if2 .taken))
-
-among-lookups-requires : tie.Need-among-lookups-requires
-among-lookups-requires c κs = search needs
 
 returns-4 : tie.Need-returns-4
 returns-4 c =
@@ -99,19 +69,19 @@ pub spell-spec : {M : Type 1} → statement M
 spell-spec =
     tie.close
     (tie.spec
-    read-id-requires
-    enum-known-read
-    enum-told
+    (λ c κs. search needs)
+    (λ c. search needs)
+    (λ c. search needs)
     returns
-    string-requires
-    fixed-requires
-    fixed-requires-2
-    fixed-requires-3
-    truth-requires
-    colour-requires
+    (λ c κs. search needs)
+    (λ c κs. search needs)
+    (λ c κs. search needs)
+    (λ c κs. search needs)
+    (λ c κs. search needs)
+    (λ c κs. search needs)
     returns-2
     returns-3
-    among-lookups-requires
+    (λ c κs. search needs)
     returns-4
     returns-5
     returns-6

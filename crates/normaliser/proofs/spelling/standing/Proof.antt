@@ -17,12 +17,6 @@ abbrev μ-loop : tie.MeasureT-loop
 loop-holds : tie.Need-loop-holds Inv-loop μ-loop
 loop-holds c = run-none (c .before .args .bytes .now) (c .before .args .start) (omega arith)
 
-spell-requires : tie.Need-spell-requires Inv-loop μ-loop
-spell-requires c κs = search needs
-
-enum-known-token : tie.Need-enum-known-token Inv-loop μ-loop
-enum-known-token c = search needs
-
 loop-less : tie.Need-loop-less Inv-loop μ-loop
 loop-less c =
     let t = run-stands (c .before .before .before .before .loop .inv) (c .before .before .before .spell .ensures) (c .before .token .given .1) in
@@ -31,20 +25,11 @@ loop-less c =
 loop-again : tie.Need-loop-again Inv-loop μ-loop
 loop-again c = run-stands (c .before .before .before .before .loop .inv) (c .before .before .before .spell .ensures) (c .before .token .given .1) .1
 
-enum-known-token-2 : tie.Need-enum-known-token-2 Inv-loop μ-loop
-enum-known-token-2 c = search needs
-
 returns : tie.Need-returns Inv-loop μ-loop
 returns c = run-float (c .before .before .before .before .loop .inv) (c .before .before .before .spell .ensures) (c .before .token2 .given .1)
 
-enum-known-token-3 : tie.Need-enum-known-token-3 Inv-loop μ-loop
-enum-known-token-3 c = search needs
-
 returns-2 : tie.Need-returns-2 Inv-loop μ-loop
 returns-2 c = run-lookup (c .before .before .before .before .loop .inv) (c .before .before .before .spell .ensures) (c .before .token3 .given .1)
-
-enum-told : tie.Need-enum-told Inv-loop μ-loop
-enum-told c = search needs
 
 returns-3 : tie.Need-returns-3 Inv-loop μ-loop
 returns-3 c = c .before .before .before .loop .inv
@@ -56,13 +41,13 @@ standing-spec =
     Inv-loop
     μ-loop
     loop-holds
-    spell-requires
-    enum-known-token
+    (λ c κs. search needs)
+    (λ c. search needs)
     loop-less
     loop-again
-    enum-known-token-2
+    (λ c. search needs)
     returns
-    enum-known-token-3
+    (λ c. search needs)
     returns-2
-    enum-told
+    (λ c. search needs)
     returns-3)

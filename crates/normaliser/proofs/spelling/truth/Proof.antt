@@ -6,15 +6,6 @@ use Rattle.payload.proofs.Laws.{gotOf}
 use Rattle.normaliser.proofs.spelling.truth.Statement.{statement}
 use Rattle.normaliser.proofs.spelling.truth.Tie as tie
 
-read-lookup-u8-requires : tie.Need-read-lookup-u8-requires
-read-lookup-u8-requires c κs = search needs
-
-enum-known-read : tie.Need-enum-known-read
-enum-known-read c = search needs
-
-enum-told : tie.Need-enum-told
-enum-told c = search needs
-
 returns : tie.Need-returns
 returns c = tt
 
@@ -29,4 +20,4 @@ returns-3 c =
 pub truth-spec : {M : Type 1} → statement M
 truth-spec =
     tie.close
-    (tie.spec read-lookup-u8-requires enum-known-read enum-told returns returns-2 returns-3)
+    (tie.spec (λ c κs. search needs) (λ c. search needs) (λ c. search needs) returns returns-2 returns-3)

@@ -7,15 +7,9 @@ use Rattle.form.proofs.Lookups.{open-is, channel-is}
 use Rattle.payload.proofs.colour.begins.Statement.{statement}
 use Rattle.payload.proofs.colour.begins.Tie as tie
 
-is-requires : tie.Need-is-requires
-is-requires c κs = search needs
-
 returns : tie.Need-returns
 unfolding headed
 returns c = simp (open-is, channel-is, sym (c .before .is .ensures) ∙ not-true _ (c .if1 .taken))
-
-is-requires-2 : tie.Need-is-requires-2
-is-requires-2 c κs = search needs
 
 returns-2 : tie.Need-returns-2
 unfolding headed
@@ -23,18 +17,12 @@ returns-2 c =
     let b1 = c .before .before in
     simp (open-is, channel-is, sym (b1 .before .is .ensures) ∙ not-false _ (b1 .if1 .left), sym (c .before .is2 .ensures) ∙ not-true _ (c .if2 .taken))
 
-is-requires-3 : tie.Need-is-requires-3
-is-requires-3 c κs = search needs
-
 returns-3 : tie.Need-returns-3
 unfolding headed
 returns-3 c =
     let b2 = c .before .before in
     let b1 = b2 .before .before in
     simp (open-is, channel-is, sym (b1 .before .is .ensures) ∙ not-false _ (b1 .if1 .left), sym (b2 .before .is2 .ensures) ∙ not-false _ (b2 .if2 .left), sym (c .before .is3 .ensures) ∙ not-true _ (c .if3 .taken))
-
-is-requires-4 : tie.Need-is-requires-4
-is-requires-4 c κs = search needs
 
 returns-4 : tie.Need-returns-4
 unfolding headed
@@ -48,11 +36,11 @@ pub begins-spec : {M : Type 1} → statement M
 begins-spec =
     tie.close
     (tie.spec
-    is-requires
+    (λ c κs. search needs)
     returns
-    is-requires-2
+    (λ c κs. search needs)
     returns-2
-    is-requires-3
+    (λ c κs. search needs)
     returns-3
-    is-requires-4
+    (λ c κs. search needs)
     returns-4)

@@ -6,9 +6,6 @@ use borrow.Author.Needs.{needs}
 use Rattle.payload.proofs.colour.closing.Statement.{statement}
 use Rattle.payload.proofs.colour.closing.Tie as tie
 
-read-alpha-requires : tie.Need-read-alpha-requires
-read-alpha-requires c κs = search needs
-
 returns : tie.Need-returns
 returns c = simp (ending-then, close-is, channel-is, eq-eqb _ _ (c .match .keys1))
 
@@ -19,4 +16,4 @@ returns-3 : tie.Need-returns-3
 returns-3 c = simp (ending-then, close-is, channel-is, ne-eqb _ _ (c .match .rest .0 .1), ne-eqb _ _ (c .match .rest .1))
 
 pub closing-spec : {M : Type 1} → statement M
-closing-spec = tie.close (tie.spec read-alpha-requires returns returns-2 returns-3)
+closing-spec = tie.close (tie.spec (λ c κs. search needs) returns returns-2 returns-3)

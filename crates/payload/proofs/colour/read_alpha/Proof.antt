@@ -9,42 +9,15 @@ use Rattle.payload.proofs.Laws.{gotOf, elseOf}
 use Rattle.payload.proofs.colour.read_alpha.Statement.{statement}
 use Rattle.payload.proofs.colour.read_alpha.Tie as tie
 
-read-u32-requires : tie.Need-read-u32-requires
-read-u32-requires c κs = search needs
-
-enum-known-first : tie.Need-enum-known-first
-enum-known-first c = search needs
-
-enum-told : tie.Need-enum-told
-enum-told c = search needs
-
-refusal-requires : tie.Need-refusal-requires
-refusal-requires c κs = search needs
-
 returns : tie.Need-returns
 unfolding andThen
 returns c = rw (alpha-then, elseOf u32Answer (c .before .before .before .read-u32 .ensures) (c .before .enum-told .given .1) (c .refusal .ensures) refl)
-
-read-id-requires : tie.Need-read-id-requires
-read-id-requires c κs = search needs
-
-enum-known-second : tie.Need-enum-known-second
-enum-known-second c = search needs
-
-enum-told-2 : tie.Need-enum-told-2
-enum-told-2 c = search needs
-
-refusal-requires-2 : tie.Need-refusal-requires-2
-refusal-requires-2 c κs = search needs
 
 returns-2 : tie.Need-returns-2
 unfolding andThen
 returns-2 c =
     let b1 = c .before .before .before .before .before in
     rw (alpha-then, gotOf u32Answer (b1 .before .before .read-u32 .ensures) (b1 .first .given .1), elseOf idAnswer (c .before .before .before .read-id .ensures) (c .before .enum-told2 .given .1) (c .refusal2 .ensures) refl)
-
-is-requires : tie.Need-is-requires
-is-requires c κs = search needs
 
 returns-3 : tie.Need-returns-3
 unfolding andThen
@@ -64,16 +37,16 @@ pub read-alpha-spec : {M : Type 1} → statement M
 read-alpha-spec =
     tie.close
     (tie.spec
-    read-u32-requires
-    enum-known-first
-    enum-told
-    refusal-requires
+    (λ c κs. search needs)
+    (λ c. search needs)
+    (λ c. search needs)
+    (λ c κs. search needs)
     returns
-    read-id-requires
-    enum-known-second
-    enum-told-2
-    refusal-requires-2
+    (λ c κs. search needs)
+    (λ c. search needs)
+    (λ c. search needs)
+    (λ c κs. search needs)
     returns-2
-    is-requires
+    (λ c κs. search needs)
     returns-3
     returns-4)

@@ -8,20 +8,8 @@ use Rattle.payload.proofs.Cutting.{last-is}
 use Rattle.payload.proofs.compact.last.Statement.{statement}
 use Rattle.payload.proofs.compact.last.Tie as tie
 
-sub-first : tie.Need-sub-first
-sub-first c = search needs
-
 spelled-requires : tie.Need-spelled-requires
 spelled-requires c κs = let a = c .before .args in (omega arith, omega (arith, length-drop (a .end - 8) (a .bytes .now)))
-
-mul-k : tie.Need-mul-k
-mul-k c = search needs
-
-sub-k : tie.Need-sub-k
-sub-k c = search needs
-
-shr-result : tie.Need-shr-result
-shr-result c = search needs
 
 returns : tie.Need-returns
 returns c =
@@ -30,4 +18,4 @@ returns c =
     rw (c .spelled .ensures) (last-is (a .bytes .now) (a .end) (a .width) (bytes-all (a .bytes .now) (c .before .shared-slice-known .given)) (p .0) (p .1))
 
 pub last-spec : {M : Type 1} → statement M
-last-spec = tie.close (tie.spec sub-first spelled-requires mul-k sub-k shr-result returns)
+last-spec = tie.close (tie.spec (λ c. search needs) spelled-requires (λ c. search needs) (λ c. search needs) (λ c. search needs) returns)

@@ -9,26 +9,14 @@ use Rattle.split.proofs.Laws.{there, short}
 use Rattle.payload.proofs.compact.read_few.Statement.{statement}
 use Rattle.payload.proofs.compact.read_few.Tie as tie
 
-read-width-requires : tie.Need-read-width-requires
-read-width-requires c κs = search needs
-
 returns : tie.Need-returns
 returns c = c .read-width .ensures
-
-read-width-requires-2 : tie.Need-read-width-requires-2
-read-width-requires-2 c κs = search needs
 
 returns-2 : tie.Need-returns-2
 returns-2 c = c .read-width2 .ensures
 
-has-requires : tie.Need-has-requires
-has-requires c κs = search needs
-
 returns-3 : tie.Need-returns-3
 returns-3 c = sym (num-short _ _ _ (short (c .before .has .ensures) (c .if3 .taken)))
-
-add-next : tie.Need-add-next
-add-next c = search needs
 
 last-requires : tie.Need-last-requires
 last-requires c κs =
@@ -48,12 +36,12 @@ pub read-few-spec : {M : Type 1} → statement M
 read-few-spec =
     tie.close
     (tie.spec
-    read-width-requires
+    (λ c κs. search needs)
     returns
-    read-width-requires-2
+    (λ c κs. search needs)
     returns-2
-    has-requires
+    (λ c κs. search needs)
     returns-3
-    add-next
+    (λ c. search needs)
     last-requires
     returns-4)

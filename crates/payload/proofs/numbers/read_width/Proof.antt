@@ -8,9 +8,6 @@ use Rattle.split.proofs.Laws.{there, short}
 use Rattle.payload.proofs.numbers.read_width.Statement.{statement}
 use Rattle.payload.proofs.numbers.read_width.Tie as tie
 
-has-requires : tie.Need-has-requires
-has-requires c κs = search needs
-
 returns : tie.Need-returns
 returns c = sym (num-short _ _ _ (short (c .before .has .ensures) (c .if1 .taken)))
 
@@ -29,4 +26,4 @@ returns-2 c =
     rw (c .spelled .ensures) (sym (num-there (a .width) (a .bytes .now) (a .at) (there (c .before .before .has .ensures) (c .before .if1 .left))))
 
 pub read-width-spec : {M : Type 1} → statement M
-read-width-spec = tie.close (tie.spec has-requires returns spelled-requires add-next returns-2)
+read-width-spec = tie.close (tie.spec (λ c κs. search needs) returns spelled-requires add-next returns-2)

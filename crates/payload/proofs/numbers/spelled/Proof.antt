@@ -22,9 +22,6 @@ loop-holds c =
     let e : c .args .width - c .args .width ≡ 0 = omega arith in
     (omega arith, (sym (part-end _ _ _), rw e (lit< tt)))
 
-sub-i : tie.Need-sub-i Inv-loop μ-loop
-sub-i c = search needs
-
 mul-x : tie.Need-mul-x Inv-loop μ-loop
 mul-x c =
     let h : c .before .before .args .width - c .before .loop .i ≤ 7 = omega arith in
@@ -44,9 +41,6 @@ add-x-2 c =
     let h : c .before .before .before .args .width - c .before .before .loop .i ≤ 7 = omega arith in
     omega (arith, within h, c .shared-slice-known .given (c .before .before .before .args .at + (c .before .before .loop .i - 1)))
 
-loop-less : tie.Need-loop-less Inv-loop μ-loop
-loop-less c = search needs
-
 loop-again : tie.Need-loop-again Inv-loop μ-loop
 loop-again c =
     let a = c .before .before .before .args in
@@ -59,4 +53,4 @@ returns : tie.Need-returns Inv-loop μ-loop
 returns c = c .before .loop .inv .1 .0 ∙ part-all _ _ _ _ (c .loop-test .left)
 
 pub spelled-spec : {M : Type 1} → statement M
-spelled-spec = tie.close (tie.spec Inv-loop μ-loop loop-holds sub-i mul-x add-x shared-slice-read-x cast-x add-x-2 loop-less loop-again returns)
+spelled-spec = tie.close (tie.spec Inv-loop μ-loop loop-holds (λ c. search needs) mul-x add-x shared-slice-read-x cast-x add-x-2 (λ c. search needs) loop-again returns)

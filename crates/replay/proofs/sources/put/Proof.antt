@@ -13,32 +13,11 @@ Inv-loop state room out₀ i₀ out i = (room ≤ i) × (length out ≡ length o
 abbrev μ-loop : tie.MeasureT-loop
 μ-loop state room out₀ i₀ out i = length out₀ - i
 
-loop-holds : tie.Need-loop-holds Inv-loop μ-loop
-loop-holds c = search needs
-
-sub-byte : tie.Need-sub-byte Inv-loop μ-loop
-sub-byte c = search needs
-
-byte-requires : tie.Need-byte-requires Inv-loop μ-loop
-byte-requires c κs = search needs
-
-slice-write-out : tie.Need-slice-write-out Inv-loop μ-loop
-slice-write-out c = search needs
-
-add-i : tie.Need-add-i Inv-loop μ-loop
-add-i c = search needs
-
-loop-less : tie.Need-loop-less Inv-loop μ-loop
-loop-less c = omega arith
-
 loop-again : tie.Need-loop-again Inv-loop μ-loop
 loop-again c = (omega arith, simp length-set (c .before .before .loop .inv .1))
 
 same-length : tie.Need-same-length Inv-loop μ-loop
 same-length c = c .before .loop .inv .1
-
-returns : tie.Need-returns Inv-loop μ-loop
-returns c = search needs
 
 pub put-spec : {M : Type 1} → statement M
 put-spec =
@@ -46,12 +25,12 @@ put-spec =
     (tie.spec
     Inv-loop
     μ-loop
-    loop-holds
-    sub-byte
-    byte-requires
-    slice-write-out
-    add-i
-    loop-less
+    (λ c. search needs)
+    (λ c. search needs)
+    (λ c κs. search needs)
+    (λ c. search needs)
+    (λ c. search needs)
+    (λ c. omega arith)
     loop-again
     same-length
-    returns)
+    (λ c. search needs))

@@ -8,15 +8,6 @@ use borrow.Author.Needs.{needs}
 use Rattle.skip.proofs.walk.compact_width.Statement.{statement}
 use Rattle.skip.proofs.walk.compact_width.Tie as tie
 
-sub-offset : tie.Need-sub-offset
-sub-offset c = search needs
-
-cast-offset : tie.Need-cast-offset
-cast-offset c = search needs
-
-sub-result : tie.Need-sub-result
-sub-result c = search needs
-
 returns : tie.Need-returns
 returns c = let h = c .before .pre in compact-steps _ (h .0) (omega (arith, c .if1 .taken))
 
@@ -28,4 +19,4 @@ returns-2 c =
     negated-steps n (omega (arith, c .if1 .left)) (omega (arith, h .1)) ∙ ap some e
 
 pub compact-width-spec : {M : Type 1} → statement M
-compact-width-spec = tie.close (tie.spec sub-offset cast-offset sub-result returns returns-2)
+compact-width-spec = tie.close (tie.spec (λ c. search needs) (λ c. search needs) (λ c. search needs) returns returns-2)

@@ -8,9 +8,6 @@ use borrow.Author.Needs.{needs}
 use Rattle.skip.proofs.walk.fixed.Statement.{statement}
 use Rattle.skip.proofs.walk.fixed.Tie as tie
 
-has-requires : tie.Need-has-requires
-has-requires c κs = search needs
-
 returns : tie.Need-returns
 returns c = sym (short-number _ _ _ (short (c .before .has .ensures) (c .if1 .taken)))
 
@@ -23,4 +20,4 @@ returns-2 : tie.Need-returns-2
 returns-2 c = sym (past-number _ _ _ (there (c .before .has .ensures) (c .if1 .left)))
 
 pub fixed-spec : {M : Type 1} → statement M
-fixed-spec = tie.close (tie.spec has-requires returns add-end returns-2)
+fixed-spec = tie.close (tie.spec (λ c κs. search needs) returns add-end returns-2)

@@ -9,23 +9,8 @@ use borrow.Author.Needs.{needs}
 use Rattle.skip.proofs.walk.over.Statement.{statement}
 use Rattle.skip.proofs.walk.over.Tie as tie
 
-add-deeper : tie.Need-add-deeper
-add-deeper c = search needs
-
 returns : tie.Need-returns
 returns c = record { answer = sym (out _ _ _ _ (c .before .match .keys2) (c .if1 .taken)); moves = tt }
-
-sub-higher : tie.Need-sub-higher
-sub-higher c = search needs
-
-skip-payload-requires : tie.Need-skip-payload-requires
-skip-payload-requires c κs = search needs
-
-enum-known-passed : tie.Need-enum-known-passed
-enum-known-passed c = search needs
-
-enum-told : tie.Need-enum-told
-enum-told c = search needs
 
 returns-2 : tie.Need-returns-2
 returns-2 c = record { answer = sym (cut-short _ _ _ _ (gotOf passedAnswer (c .before .before .skip-payload .ensures) (c .enum-told .given .1))); moves = tt }
@@ -53,12 +38,12 @@ pub over-spec : {M : Type 1} → statement M
 over-spec =
     tie.close
     (tie.spec
-    add-deeper
+    (λ c. search needs)
     returns
-    sub-higher
-    skip-payload-requires
-    enum-known-passed
-    enum-told
+    (λ c. search needs)
+    (λ c κs. search needs)
+    (λ c. search needs)
+    (λ c. search needs)
     returns-2
     returns-3
     returns-4

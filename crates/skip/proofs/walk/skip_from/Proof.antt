@@ -23,21 +23,6 @@ loop-holds c = (omega arith, refl)
 over-requires : tie.Need-over-requires Inv-loop μ-loop
 over-requires c κs = c .loop .inv .0
 
-enum-known-turn : tie.Need-enum-known-turn Inv-loop μ-loop
-enum-known-turn c = search needs
-
-read-id-requires : tie.Need-read-id-requires Inv-loop μ-loop
-read-id-requires c κs = search needs
-
-enum-known-read : tie.Need-enum-known-read Inv-loop μ-loop
-enum-known-read c = search needs
-
-enum-told : tie.Need-enum-told Inv-loop μ-loop
-enum-told c = search needs
-
-refusal-requires : tie.Need-refusal-requires Inv-loop μ-loop
-refusal-requires c κs = search needs
-
 returns : tie.Need-returns Inv-loop μ-loop
 returns c =
     let t = known _ _ _ _ (c .before .before .before .before .before .before .before .over .ensures) (c .before .before .before .before .before .turn .given .1) in
@@ -55,15 +40,9 @@ loop-again c =
     let g = goes-on _ _ _ _ t (gotOf idAnswer (c .before .before .before .read-id .ensures) (c .before .read .given .1)) in
     (g .0, g .1 ∙ c .before .before .before .before .before .before .before .before .loop .inv .1)
 
-enum-known-turn-2 : tie.Need-enum-known-turn-2 Inv-loop μ-loop
-enum-known-turn-2 c = search needs
-
 returns-2 : tie.Need-returns-2 Inv-loop μ-loop
 returns-2 c =
     known _ _ _ _ (c .before .before .before .over .ensures) (c .before .turn2 .given .1) .answer ∙ c .before .before .before .before .loop .inv .1
-
-enum-told-2 : tie.Need-enum-told-2 Inv-loop μ-loop
-enum-told-2 c = search needs
 
 returns-3 : tie.Need-returns-3 Inv-loop μ-loop
 returns-3 c =
@@ -77,15 +56,15 @@ skip-from-spec =
     μ-loop
     loop-holds
     over-requires
-    enum-known-turn
-    read-id-requires
-    enum-known-read
-    enum-told
-    refusal-requires
+    (λ c. search needs)
+    (λ c κs. search needs)
+    (λ c. search needs)
+    (λ c. search needs)
+    (λ c κs. search needs)
     returns
     loop-less
     loop-again
-    enum-known-turn-2
+    (λ c. search needs)
     returns-2
-    enum-told-2
+    (λ c. search needs)
     returns-3)

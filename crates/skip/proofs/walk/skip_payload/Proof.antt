@@ -38,27 +38,6 @@ eights = 0x0167 ∷ 0x029c ∷ 0x0317 ∷ []
 abbrev arms : List (List ℕ)
 arms = strings ∷ ones ∷ twos ∷ threes ∷ fours ∷ floats ∷ eights ∷ []
 
-string-requires : tie.Need-string-requires
-string-requires c κs = search needs
-
-fixed-requires : tie.Need-fixed-requires
-fixed-requires c κs = search needs
-
-fixed-requires-2 : tie.Need-fixed-requires-2
-fixed-requires-2 c κs = search needs
-
-fixed-requires-3 : tie.Need-fixed-requires-3
-fixed-requires-3 c κs = search needs
-
-fixed-requires-4 : tie.Need-fixed-requires-4
-fixed-requires-4 c κs = search needs
-
-fixed-requires-5 : tie.Need-fixed-requires-5
-fixed-requires-5 c κs = search needs
-
-fixed-requires-6 : tie.Need-fixed-requires-6
-fixed-requires-6 c κs = search needs
-
 returns : tie.Need-returns
 unfolding after orPlain find entries table
 returns c = passed-nothing _ _ _ (bare (leb 0x0d47) arms refl _ (c .before .match .rest) (lt-leb 0x0d47 _ (c .if1 .taken)))
@@ -70,9 +49,6 @@ returns-2 c =
 
 compact-width-requires : tie.Need-compact-width-requires
 compact-width-requires c κs = (c .before .if1 .left, c .if2 .left)
-
-fixed-requires-7 : tie.Need-fixed-requires-7
-fixed-requires-7 c κs = search needs
 
 returns-3 : tie.Need-returns-3
 unfolding after orPlain find entries table
@@ -109,17 +85,17 @@ pub skip-payload-spec : {M : Type 1} → statement M
 skip-payload-spec =
     tie.close
     (tie.spec
-    string-requires
-    fixed-requires
-    fixed-requires-2
-    fixed-requires-3
-    fixed-requires-4
-    fixed-requires-5
-    fixed-requires-6
+    (λ c κs. search needs)
+    (λ c κs. search needs)
+    (λ c κs. search needs)
+    (λ c κs. search needs)
+    (λ c κs. search needs)
+    (λ c κs. search needs)
+    (λ c κs. search needs)
     returns
     returns-2
     compact-width-requires
-    fixed-requires-7
+    (λ c κs. search needs)
     returns-3
     returns-4
     returns-5

@@ -10,20 +10,11 @@ use Rattle.source.proofs.Cases.{advanced-bad, held, ordered, advanced-o
 use Rattle.source.proofs.ParserSource.advance.Statement.{statement}
 use Rattle.source.proofs.ParserSource.advance.Tie as tie
 
-check-requires : tie.Need-check-requires
-check-requires c κs = search needs
-
-enum-known-c : tie.Need-enum-known-c
-enum-known-c c = search needs
-
 returns : tie.Need-returns
 returns c =
     let a = c .before .before .before .before .before .before .before .args in
     let e = sym (c .before .before .before .check .ensures) ∙ c .before .c .given .1 in
     sym (advanced-bad (now (a .supply)) (now (a .schedule)) (a .self) (now (a .buffer)) e _)
-
-enum-told : tie.Need-enum-told
-enum-told c = search needs
 
 sub-if1 : tie.Need-sub-if1
 sub-if1 c =
@@ -54,10 +45,10 @@ pub advance-spec : {M : Type 1} → statement M
 advance-spec =
     tie.close
     (tie.spec
-    check-requires
-    enum-known-c
+    (λ c κs. search needs)
+    (λ c. search needs)
     returns
-    enum-told
+    (λ c. search needs)
     sub-if1
     past-requires
     returns-2

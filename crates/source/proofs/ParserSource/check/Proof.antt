@@ -6,12 +6,6 @@ use Rattle.source.proofs.Cases.{stream-checked, slice-checked}
 use Rattle.source.proofs.ParserSource.check.Statement.{statement}
 use Rattle.source.proofs.ParserSource.check.Tie as tie
 
-check-in-requires : tie.Need-check-in-requires
-check-in-requires c κs = search needs
-
-check-in-requires-2 : tie.Need-check-in-requires-2
-check-in-requires-2 c κs = search needs
-
 returns : tie.Need-returns
 returns c =
     let a = c .before .before .before .before .before .args in
@@ -23,4 +17,4 @@ returns-2 c =
     c .check-in2 .ensures ∙ sym (slice-checked (now (a .supply)) (now (a .schedule)) (a .self) (now (a .buffer)) (c .before .if1 .left))
 
 pub check-spec : {M : Type 1} → statement M
-check-spec = tie.close (tie.spec check-in-requires check-in-requires-2 returns returns-2)
+check-spec = tie.close (tie.spec (λ c κs. search needs) (λ c κs. search needs) returns returns-2)

@@ -24,9 +24,6 @@ returns-4 c =
     let a = c .before .before .before .before .before .before .before .before .args in
     sym (bad-schedule (a .self) (a .held) (a .supply) (a .schedule) (c .before .before .before .before .before .before .if1 .left) (c .before .before .before .before .if2 .left) (c .before .before .if3 .left) (c .if4 .taken))
 
-sub-spare : tie.Need-sub-spare
-sub-spare c = search needs
-
 returns-5 : tie.Need-returns-5
 returns-5 c =
     let a = c .before .before .before .before .before .before .before .before .before .before .before .args in
@@ -44,4 +41,4 @@ returns-7 c =
 
 pub check-in-spec : {M : Type 1} → statement M
 check-in-spec =
-    tie.close (tie.spec returns returns-2 returns-3 returns-4 sub-spare returns-5 returns-6 returns-7)
+    tie.close (tie.spec returns returns-2 returns-3 returns-4 (λ c. search needs) returns-5 returns-6 returns-7)

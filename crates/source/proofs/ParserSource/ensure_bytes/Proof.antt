@@ -7,23 +7,11 @@ use Rattle.source.proofs.Cases.{ensured-bad, sound, ordered, ensured-en
 use Rattle.source.proofs.ParserSource.ensure_bytes.Statement.{statement}
 use Rattle.source.proofs.ParserSource.ensure_bytes.Tie as tie
 
-check-requires : tie.Need-check-requires
-check-requires c κs = search needs
-
-enum-known-c : tie.Need-enum-known-c
-enum-known-c c = search needs
-
-same-length : tie.Need-same-length
-same-length c = search needs
-
 returns : tie.Need-returns
 returns c =
     let a = c .before .before .before .before .before .before .before .before .args in
     let e = sym (c .before .before .before .check .ensures) ∙ c .before .c .given .1 in
     sym (ensured-bad (now (a .supply)) (now (a .schedule)) (a .self) (now (a .buffer)) e _)
-
-enum-told : tie.Need-enum-told
-enum-told c = search needs
 
 sub-if1 : tie.Need-sub-if1
 sub-if1 c =
@@ -31,26 +19,17 @@ sub-if1 c =
     let e = sym (c .before .before .before .check .ensures) ∙ c .before .enum-told .given .1 in
     ordered (now (a .supply)) (now (a .schedule)) (a .self) (now (a .buffer)) e
 
-same-length-2 : tie.Need-same-length-2
-same-length-2 c = search needs
-
 returns-2 : tie.Need-returns-2
 returns-2 c =
     let a = c .before .before .before .before .before .before .before .before .before .args in
     let e = sym (c .before .before .before .before .check .ensures) ∙ c .before .before .enum-told .given .1 in
     sym (ensured-enough (now (a .supply)) (now (a .schedule)) (a .self) (now (a .buffer)) e _ (c .if1 .taken))
 
-same-length-3 : tie.Need-same-length-3
-same-length-3 c = search needs
-
 returns-3 : tie.Need-returns-3
 returns-3 c =
     let a = c .before .before .before .before .before .before .before .before .before .before .before .args in
     let e = sym (c .before .before .before .before .before .before .check .ensures) ∙ c .before .before .before .before .enum-told .given .1 in
     sym (ensured-slice (now (a .supply)) (now (a .schedule)) (a .self) (now (a .buffer)) e _ (c .before .before .if1 .left) (not-true _ (c .if2 .taken)))
-
-same-length-4 : tie.Need-same-length-4
-same-length-4 c = search needs
 
 returns-4 : tie.Need-returns-4
 returns-4 c =
@@ -64,9 +43,6 @@ refill-slow-requires c κs =
     let e = sym (c .before .before .before .before .before .before .before .before .check .ensures) ∙ c .before .before .before .before .before .before .enum-told .given .1 in
     sound (now (a .supply)) (now (a .schedule)) (a .self) (now (a .buffer)) e (not-false _ (c .before .before .if2 .left))
 
-same-length-5 : tie.Need-same-length-5
-same-length-5 c = search needs
-
 returns-5 : tie.Need-returns-5
 returns-5 c =
     let a = c .before .before .before .before .before .before .before .before .before .before .before .before .before .before .before .before .args in
@@ -77,18 +53,18 @@ pub ensure-bytes-spec : {M : Type 1} → statement M
 ensure-bytes-spec =
     tie.close
     (tie.spec
-    check-requires
-    enum-known-c
-    same-length
+    (λ c κs. search needs)
+    (λ c. search needs)
+    (λ c. search needs)
     returns
-    enum-told
+    (λ c. search needs)
     sub-if1
-    same-length-2
+    (λ c. search needs)
     returns-2
-    same-length-3
+    (λ c. search needs)
     returns-3
-    same-length-4
+    (λ c. search needs)
     returns-4
     refill-slow-requires
-    same-length-5
+    (λ c. search needs)
     returns-5)

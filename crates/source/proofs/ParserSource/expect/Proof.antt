@@ -9,38 +9,14 @@ use borrow.Author.Needs.{needs}
 use Rattle.source.proofs.ParserSource.expect.Statement.{statement}
 use Rattle.source.proofs.ParserSource.expect.Tie as tie
 
-read-lexeme-id-requires : tie.Need-read-lexeme-id-requires
-read-lexeme-id-requires c κs = search needs
-
-enum-known-r : tie.Need-enum-known-r
-enum-known-r c = search needs
-
-enum-told : tie.Need-enum-told
-enum-told c = search needs
-
-stop-requires : tie.Need-stop-requires
-stop-requires c κs = search needs
-
-same-length : tie.Need-same-length
-same-length c = search needs
-
 returns : tie.Need-returns
 unfolding expected
 returns c = sym (then-stop _ _ _ _ (elseOf idAnswer idStop (c .before .before .before .before .before .read-lexeme-id .ensures) (c .before .enum-told .given .1) (c .stop .ensures) refl))
-
-is-requires : tie.Need-is-requires
-is-requires c κs = search needs
-
-same-length-2 : tie.Need-same-length-2
-same-length-2 c = search needs
 
 returns-2 : tie.Need-returns-2
 returns-2 c =
     let a = c .before .before .before .before .before .before .before .before .before .before .before .before .args in
     sym (expected-is (now (a .supply)) (now (a .schedule)) (a .self) (now (a .buffer)) (a .id .0) (gotOf idAnswer (c .before .before .before .before .before .before .before .read-lexeme-id .ensures) (c .before .before .before .r .given .1)) (sym (c .before .is .ensures) ∙ c .if1 .taken))
-
-same-length-3 : tie.Need-same-length-3
-same-length-3 c = search needs
 
 returns-3 : tie.Need-returns-3
 returns-3 c =
@@ -51,14 +27,14 @@ pub expect-spec : {M : Type 1} → statement M
 expect-spec =
     tie.close
     (tie.spec
-    read-lexeme-id-requires
-    enum-known-r
-    enum-told
-    stop-requires
-    same-length
+    (λ c κs. search needs)
+    (λ c. search needs)
+    (λ c. search needs)
+    (λ c κs. search needs)
+    (λ c. search needs)
     returns
-    is-requires
-    same-length-2
+    (λ c κs. search needs)
+    (λ c. search needs)
     returns-2
-    same-length-3
+    (λ c. search needs)
     returns-3)

@@ -8,28 +8,10 @@ use Rattle.source.proofs.Laws.{gotOf, peeked-ready, peeked-stop}
 use Rattle.source.proofs.ParserSource.peek.Statement.{statement}
 use Rattle.source.proofs.ParserSource.peek.Tie as tie
 
-ensure-bytes-requires : tie.Need-ensure-bytes-requires
-ensure-bytes-requires c κs = search needs
-
-enum-known-e : tie.Need-enum-known-e
-enum-known-e c = search needs
-
-enum-known-e-2 : tie.Need-enum-known-e-2
-enum-known-e-2 c = search needs
-
-or-nothing-requires : tie.Need-or-nothing-requires
-or-nothing-requires c κs = search needs
-
-same-length : tie.Need-same-length
-same-length c = search needs
-
 returns : tie.Need-returns
 returns c =
     let a = c .before .before .before .before .before .before .before .before .before .before .args in
     sym (peeked-ready (now (a .supply)) (now (a .schedule)) (a .count) (a .self) (now (a .buffer)) (gotOf ensuredAnswer (c .before .before .before .before .before .ensure-bytes .ensures) (c .before .e .given .1)))
-
-same-length-2 : tie.Need-same-length-2
-same-length-2 c = search needs
 
 returns-2 : tie.Need-returns-2
 returns-2 c =
@@ -42,11 +24,11 @@ pub peek-spec : {M : Type 1} → statement M
 peek-spec =
     tie.close
     (tie.spec
-    ensure-bytes-requires
-    enum-known-e
-    enum-known-e-2
-    or-nothing-requires
-    same-length
+    (λ c κs. search needs)
+    (λ c. search needs)
+    (λ c. search needs)
+    (λ c κs. search needs)
+    (λ c. search needs)
     returns
-    same-length-2
+    (λ c. search needs)
     returns-2)

@@ -12,28 +12,10 @@ use borrow.Author.Needs.{needs}
 use Rattle.source.proofs.ParserSource.peek_lexeme_id.Statement.{statement}
 use Rattle.source.proofs.ParserSource.peek_lexeme_id.Tie as tie
 
-peek-requires : tie.Need-peek-requires
-peek-requires c κs = search needs
-
-enum-known-t : tie.Need-enum-known-t
-enum-known-t c = search needs
-
 u16-at-requires : tie.Need-u16-at-requires
 u16-at-requires c κs =
     let a = c .before .before .before .before .before .before .before .before .before .before .before .args in
     peeked-there (now (a .supply)) (now (a .schedule)) (a .self) (now (a .buffer)) 2 (gotOf triedAnswer (c .before .before .before .before .before .before .peek .ensures) (c .before .before .t .given .1))
-
-new-requires : tie.Need-new-requires
-new-requires c κs = search needs
-
-enum-known-t-2 : tie.Need-enum-known-t-2
-enum-known-t-2 c = search needs
-
-enum-known-t-3 : tie.Need-enum-known-t-3
-enum-known-t-3 c = search needs
-
-same-length : tie.Need-same-length
-same-length c = search needs
 
 returns : tie.Need-returns
 unfolding peekedId mappedOption
@@ -43,15 +25,9 @@ returns c =
     ap (λ (i : ℕ). gives (some i) (t .0 .1 .0) (o .last .1 .1 .0)) (c .new .ensures ∙ c .before .u16-at .ensures)
     ∙ sym (then-got _ _ _ _ (gotOf triedAnswer (o .ensures) (t .1)))
 
-same-length-2 : tie.Need-same-length-2
-same-length-2 c = search needs
-
 returns-2 : tie.Need-returns-2
 unfolding peekedId mappedOption
 returns-2 c = sym (then-got _ _ _ _ (gotOf triedAnswer (c .before .before .before .before .before .peek .ensures) (c .before .t2 .given .1)))
-
-same-length-3 : tie.Need-same-length-3
-same-length-3 c = search needs
 
 returns-3 : tie.Need-returns-3
 unfolding peekedId
@@ -63,15 +39,15 @@ pub peek-lexeme-id-spec : {M : Type 1} → statement M
 peek-lexeme-id-spec =
     tie.close
     (tie.spec
-    peek-requires
-    enum-known-t
+    (λ c κs. search needs)
+    (λ c. search needs)
     u16-at-requires
-    new-requires
-    enum-known-t-2
-    enum-known-t-3
-    same-length
+    (λ c κs. search needs)
+    (λ c. search needs)
+    (λ c. search needs)
+    (λ c. search needs)
     returns
-    same-length-2
+    (λ c. search needs)
     returns-2
-    same-length-3
+    (λ c. search needs)
     returns-3)

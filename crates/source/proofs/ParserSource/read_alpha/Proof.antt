@@ -9,48 +9,15 @@ use borrow.Author.Needs.{needs}
 use Rattle.source.proofs.ParserSource.read_alpha.Statement.{statement}
 use Rattle.source.proofs.ParserSource.read_alpha.Tie as tie
 
-take-u32-requires : tie.Need-take-u32-requires
-take-u32-requires c κs = search needs
-
-enum-known-v : tie.Need-enum-known-v
-enum-known-v c = search needs
-
-enum-told : tie.Need-enum-told
-enum-told c = search needs
-
-stop-requires : tie.Need-stop-requires
-stop-requires c κs = search needs
-
-same-length : tie.Need-same-length
-same-length c = search needs
-
 returns : tie.Need-returns
 unfolding withAlpha
 returns c = sym (then-stop _ _ _ _ (elseOf u32Answer u32Stop (c .before .before .before .before .before .take-u32 .ensures) (c .before .enum-told .given .1) (c .stop .ensures) refl))
-
-expect-requires : tie.Need-expect-requires
-expect-requires c κs = search needs
-
-enum-known-e : tie.Need-enum-known-e
-enum-known-e c = search needs
-
-enum-told-2 : tie.Need-enum-told-2
-enum-told-2 c = search needs
-
-stop-requires-2 : tie.Need-stop-requires-2
-stop-requires-2 c κs = search needs
-
-same-length-2 : tie.Need-same-length-2
-same-length-2 c = search needs
 
 returns-2 : tie.Need-returns-2
 returns-2 c =
     let a = c .before .before .before .before .before .before .before .before .before .before .before .before .before .before .before .before .before .args in
     sym (alpha-end-stop (now (a .supply)) (now (a .schedule)) (a .self) (now (a .buffer)) (a .r) (a .g) (a .b) (gotOf u32Answer (c .before .before .before .before .before .before .before .before .before .before .before .before .take-u32 .ensures) (c .before .before .before .before .before .before .before .before .v .given .1)) (c .stop2 .result)
     (elseOf ensuredAnswer ensuredStop (c .before .before .before .before .before .expect .ensures) (c .before .enum-told2 .given .1) (c .stop2 .ensures) refl))
-
-same-length-3 : tie.Need-same-length-3
-same-length-3 c = search needs
 
 returns-3 : tie.Need-returns-3
 returns-3 c =
@@ -61,17 +28,17 @@ pub read-alpha-spec : {M : Type 1} → statement M
 read-alpha-spec =
     tie.close
     (tie.spec
-    take-u32-requires
-    enum-known-v
-    enum-told
-    stop-requires
-    same-length
+    (λ c κs. search needs)
+    (λ c. search needs)
+    (λ c. search needs)
+    (λ c κs. search needs)
+    (λ c. search needs)
     returns
-    expect-requires
-    enum-known-e
-    enum-told-2
-    stop-requires-2
-    same-length-2
+    (λ c κs. search needs)
+    (λ c. search needs)
+    (λ c. search needs)
+    (λ c κs. search needs)
+    (λ c. search needs)
     returns-2
-    same-length-3
+    (λ c. search needs)
     returns-3)

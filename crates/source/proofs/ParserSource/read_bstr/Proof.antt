@@ -10,21 +10,6 @@ use borrow.Author.Needs.{needs}
 use Rattle.source.proofs.ParserSource.read_bstr.Statement.{statement}
 use Rattle.source.proofs.ParserSource.read_bstr.Tie as tie
 
-ensure-bytes-requires : tie.Need-ensure-bytes-requires
-ensure-bytes-requires c κs = search needs
-
-enum-known-e : tie.Need-enum-known-e
-enum-known-e c = search needs
-
-enum-told : tie.Need-enum-told
-enum-told c = search needs
-
-stop-requires : tie.Need-stop-requires
-stop-requires c κs = search needs
-
-same-length : tie.Need-same-length
-same-length c = search needs
-
 returns : tie.Need-returns
 unfolding string
 returns c = sym (then-stop _ _ _ _ (elseOf ensuredAnswer ensuredStop (c .before .before .before .before .before .ensure-bytes .ensures) (c .before .enum-told .given .1) (c .stop .ensures) refl))
@@ -33,15 +18,6 @@ u16-at-requires : tie.Need-u16-at-requires
 u16-at-requires c κs =
     let a = c .before .before .before .before .before .before .before .before .before .before .before .args in
     ready-there (now (a .supply)) (now (a .schedule)) (a .self) (now (a .buffer)) 2 (gotOf ensuredAnswer (c .before .before .before .before .before .before .ensure-bytes .ensures) (c .before .before .e .given .1))
-
-cast-len : tie.Need-cast-len
-cast-len c = search needs
-
-read-text-requires : tie.Need-read-text-requires
-read-text-requires c κs = search needs
-
-same-length-2 : tie.Need-same-length-2
-same-length-2 c = search needs
 
 returns-2 : tie.Need-returns-2
 unfolding string
@@ -57,14 +33,14 @@ pub read-bstr-spec : {M : Type 1} → statement M
 read-bstr-spec =
     tie.close
     (tie.spec
-    ensure-bytes-requires
-    enum-known-e
-    enum-told
-    stop-requires
-    same-length
+    (λ c κs. search needs)
+    (λ c. search needs)
+    (λ c. search needs)
+    (λ c κs. search needs)
+    (λ c. search needs)
     returns
     u16-at-requires
-    cast-len
-    read-text-requires
-    same-length-2
+    (λ c. search needs)
+    (λ c κs. search needs)
+    (λ c. search needs)
     returns-2)

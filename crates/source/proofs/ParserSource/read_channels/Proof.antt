@@ -9,57 +9,15 @@ use borrow.Author.Needs.{needs}
 use Rattle.source.proofs.ParserSource.read_channels.Statement.{statement}
 use Rattle.source.proofs.ParserSource.read_channels.Tie as tie
 
-read-channel-requires : tie.Need-read-channel-requires
-read-channel-requires c κs = search needs
-
-enum-known-red : tie.Need-enum-known-red
-enum-known-red c = search needs
-
-enum-told : tie.Need-enum-told
-enum-told c = search needs
-
-stop-requires : tie.Need-stop-requires
-stop-requires c κs = search needs
-
-same-length : tie.Need-same-length
-same-length c = search needs
-
 returns : tie.Need-returns
 unfolding channels
 returns c = sym (then-stop _ _ _ _ (elseOf u32Answer u32Stop (c .before .before .before .before .before .read-channel .ensures) (c .before .enum-told .given .1) (c .stop .ensures) refl))
-
-read-channel-requires-2 : tie.Need-read-channel-requires-2
-read-channel-requires-2 c κs = search needs
-
-enum-known-green : tie.Need-enum-known-green
-enum-known-green c = search needs
-
-enum-told-2 : tie.Need-enum-told-2
-enum-told-2 c = search needs
-
-stop-requires-2 : tie.Need-stop-requires-2
-stop-requires-2 c κs = search needs
-
-same-length-2 : tie.Need-same-length-2
-same-length-2 c = search needs
 
 returns-2 : tie.Need-returns-2
 returns-2 c =
     let a = c .before .before .before .before .before .before .before .before .before .before .before .before .before .before .before .before .before .args in
     sym (green-stop (now (a .supply)) (now (a .schedule)) (a .self) (now (a .buffer)) (gotOf u32Answer (c .before .before .before .before .before .before .before .before .before .before .before .before .read-channel .ensures) (c .before .before .before .before .before .before .before .before .red .given .1)) (c .stop2 .result)
     (elseOf u32Answer u32Stop (c .before .before .before .before .before .read-channel2 .ensures) (c .before .enum-told2 .given .1) (c .stop2 .ensures) refl))
-
-read-channel-requires-3 : tie.Need-read-channel-requires-3
-read-channel-requires-3 c κs = search needs
-
-enum-known-blue : tie.Need-enum-known-blue
-enum-known-blue c = search needs
-
-enum-told-3 : tie.Need-enum-told-3
-enum-told-3 c = search needs
-
-stop-requires-3 : tie.Need-stop-requires-3
-stop-requires-3 c κs = search needs
 
 same-length-3 : tie.Need-same-length-3
 same-length-3 c = c .before .before .before .before .before .read-channel3 .kept .1 .0 ∙ c .before .before .before .before .before .before .before .before .before .before .before .before .read-channel2 .kept .1 .0 ∙ c .before .before .before .before .before .before .before .before .before .before .before .before .before .before .before .before .before .before .before .read-channel .kept .1 .0
@@ -69,9 +27,6 @@ returns-3 c =
     let a = c .before .before .before .before .before .before .before .before .before .before .before .before .before .before .before .before .before .before .before .before .before .before .before .before .args in
     sym (blue-stop (now (a .supply)) (now (a .schedule)) (a .self) (now (a .buffer)) (gotOf u32Answer (c .before .before .before .before .before .before .before .before .before .before .before .before .before .before .before .before .before .before .before .read-channel .ensures) (c .before .before .before .before .before .before .before .before .before .before .before .before .before .before .before .red .given .1)) (gotOf u32Answer (c .before .before .before .before .before .before .before .before .before .before .before .before .read-channel2 .ensures) (c .before .before .before .before .before .before .before .before .green .given .1)) (c .stop3 .result)
     (elseOf u32Answer u32Stop (c .before .before .before .before .before .read-channel3 .ensures) (c .before .enum-told3 .given .1) (c .stop3 .ensures) refl))
-
-read-ending-requires : tie.Need-read-ending-requires
-read-ending-requires c κs = search needs
 
 same-length-4 : tie.Need-same-length-4
 same-length-4 c =
@@ -88,24 +43,24 @@ pub read-channels-spec : {M : Type 1} → statement M
 read-channels-spec =
     tie.close
     (tie.spec
-    read-channel-requires
-    enum-known-red
-    enum-told
-    stop-requires
-    same-length
+    (λ c κs. search needs)
+    (λ c. search needs)
+    (λ c. search needs)
+    (λ c κs. search needs)
+    (λ c. search needs)
     returns
-    read-channel-requires-2
-    enum-known-green
-    enum-told-2
-    stop-requires-2
-    same-length-2
+    (λ c κs. search needs)
+    (λ c. search needs)
+    (λ c. search needs)
+    (λ c κs. search needs)
+    (λ c. search needs)
     returns-2
-    read-channel-requires-3
-    enum-known-blue
-    enum-told-3
-    stop-requires-3
+    (λ c κs. search needs)
+    (λ c. search needs)
+    (λ c. search needs)
+    (λ c κs. search needs)
     same-length-3
     returns-3
-    read-ending-requires
+    (λ c κs. search needs)
     same-length-4
     returns-4)

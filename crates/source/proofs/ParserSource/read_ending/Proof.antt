@@ -9,46 +9,19 @@ use borrow.Author.Needs.{needs}
 use Rattle.source.proofs.ParserSource.read_ending.Statement.{statement}
 use Rattle.source.proofs.ParserSource.read_ending.Tie as tie
 
-read-lexeme-id-requires : tie.Need-read-lexeme-id-requires
-read-lexeme-id-requires c κs = search needs
-
-enum-known-last : tie.Need-enum-known-last
-enum-known-last c = search needs
-
-enum-told : tie.Need-enum-told
-enum-told c = search needs
-
-stop-requires : tie.Need-stop-requires
-stop-requires c κs = search needs
-
-same-length : tie.Need-same-length
-same-length c = search needs
-
 returns : tie.Need-returns
 unfolding ending
 returns c = sym (then-stop _ _ _ _ (elseOf idAnswer idStop (c .before .before .before .before .before .read-lexeme-id .ensures) (c .before .enum-told .given .1) (c .stop .ensures) refl))
-
-read-alpha-requires : tie.Need-read-alpha-requires
-read-alpha-requires c κs = search needs
-
-same-length-2 : tie.Need-same-length-2
-same-length-2 c = search needs
 
 returns-2 : tie.Need-returns-2
 returns-2 c =
     let a = c .before .before .before .before .before .before .before .before .before .before .before .args in
     sym (ending-close (now (a .supply)) (now (a .schedule)) (a .self) (now (a .buffer)) (a .r) (a .g) (a .b) (gotOf idAnswer (c .before .before .before .before .before .before .read-lexeme-id .ensures) (c .before .before .last .given .1)) (c .match2 .keys1))
 
-same-length-3 : tie.Need-same-length-3
-same-length-3 c = search needs
-
 returns-3 : tie.Need-returns-3
 returns-3 c =
     let a = c .before .before .before .before .before .before .before .before .before .before .before .before .before .before .before .args in
     c .before .before .read-alpha .ensures ∙ sym (ending-alpha (now (a .supply)) (now (a .schedule)) (a .self) (now (a .buffer)) (a .r) (a .g) (a .b) (gotOf idAnswer (c .before .before .before .before .before .before .before .before .before .before .read-lexeme-id .ensures) (c .before .before .before .before .before .before .last .given .1)) (c .before .before .before .before .match2 .keys2))
-
-same-length-4 : tie.Need-same-length-4
-same-length-4 c = search needs
 
 returns-4 : tie.Need-returns-4
 returns-4 c =
@@ -59,16 +32,16 @@ pub read-ending-spec : {M : Type 1} → statement M
 read-ending-spec =
     tie.close
     (tie.spec
-    read-lexeme-id-requires
-    enum-known-last
-    enum-told
-    stop-requires
-    same-length
+    (λ c κs. search needs)
+    (λ c. search needs)
+    (λ c. search needs)
+    (λ c κs. search needs)
+    (λ c. search needs)
     returns
-    read-alpha-requires
-    same-length-2
+    (λ c κs. search needs)
+    (λ c. search needs)
     returns-2
-    same-length-3
+    (λ c. search needs)
     returns-3
-    same-length-4
+    (λ c. search needs)
     returns-4)

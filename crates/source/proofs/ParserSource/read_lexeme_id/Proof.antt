@@ -11,25 +11,10 @@ use borrow.Author.Needs.{needs}
 use Rattle.source.proofs.ParserSource.read_lexeme_id.Statement.{statement}
 use Rattle.source.proofs.ParserSource.read_lexeme_id.Tie as tie
 
-take-requires : tie.Need-take-requires
-take-requires c κs = search needs
-
-enum-known-t : tie.Need-enum-known-t
-enum-known-t c = search needs
-
 u16-at-requires : tie.Need-u16-at-requires
 u16-at-requires c κs =
     let a = c .before .before .before .before .before .before .before .before .before .before .before .args in
     taken-there (now (a .supply)) (now (a .schedule)) (a .self) (now (a .buffer)) 2 (gotOf takenAnswer (c .before .before .before .before .before .before .take .ensures) (c .before .before .t .given .1))
-
-new-requires : tie.Need-new-requires
-new-requires c κs = search needs
-
-enum-known-t-2 : tie.Need-enum-known-t-2
-enum-known-t-2 c = search needs
-
-same-length : tie.Need-same-length
-same-length c = search needs
 
 returns : tie.Need-returns
 unfolding number
@@ -38,9 +23,6 @@ returns c =
     let t = c .before .before .before .before .t .given in
     ap (λ (i : ℕ). gives i (t .0 .1 .0) (o .last .1 .1 .0)) (c .new .ensures ∙ c .before .u16-at .ensures)
     ∙ sym (then-got _ _ _ _ (gotOf takenAnswer (o .ensures) (t .1)))
-
-same-length-2 : tie.Need-same-length-2
-same-length-2 c = search needs
 
 returns-2 : tie.Need-returns-2
 unfolding number
@@ -52,12 +34,12 @@ pub read-lexeme-id-spec : {M : Type 1} → statement M
 read-lexeme-id-spec =
     tie.close
     (tie.spec
-    take-requires
-    enum-known-t
+    (λ c κs. search needs)
+    (λ c. search needs)
     u16-at-requires
-    new-requires
-    enum-known-t-2
-    same-length
+    (λ c κs. search needs)
+    (λ c. search needs)
+    (λ c. search needs)
     returns
-    same-length-2
+    (λ c. search needs)
     returns-2)

@@ -7,15 +7,6 @@ use Rattle.source.proofs.Cases.{one-fits, once-failed, once-read}
 use Rattle.source.proofs.ParserSource.read_more.Statement.{statement}
 use Rattle.source.proofs.ParserSource.read_more.Tie as tie
 
-sub-len : tie.Need-sub-len
-sub-len c = search needs
-
-slide-requires : tie.Need-slide-requires
-slide-requires c κs = search needs
-
-read-once-requires : tie.Need-read-once-requires
-read-once-requires c κs = search needs
-
 landed-requires : tie.Need-landed-requires
 landed-requires c κs =
     let s = c .before .before .before .before .before .before .before .before .before .before .before .before in
@@ -23,9 +14,6 @@ landed-requires c κs =
     let f = c .before .before .read-once in
     let w = rw (← f .ensures .0) at (one-fits (a .self) (length (c .before .before .before .before .before .before .slide .last .0)) (length (now (a .supply))) (now (a .schedule))) in
     (s .pre .ordered, omega (arith, w, s .pre), omega (arith, w, s .pre), omega (arith, w, s .pre))
-
-same-length : tie.Need-same-length
-same-length c = search needs
 
 returns : tie.Need-returns
 returns c =
@@ -35,9 +23,6 @@ returns c =
     let f = c .before .before .before .before .read-once in
     let l = c .before .landed in
     once-failed (now (a .supply)) (now (a .schedule)) (a .self) (now (a .buffer)) (s .pre) (d .last .0) (f .last .0) (f .result) (l .result) (d .ensures) (f .ensures .1) (l .ensures) (f .ensures .0) (c .if1 .taken)
-
-same-length-2 : tie.Need-same-length-2
-same-length-2 c = search needs
 
 returns-2 : tie.Need-returns-2
 returns-2 c =
@@ -52,11 +37,11 @@ pub read-more-spec : {M : Type 1} → statement M
 read-more-spec =
     tie.close
     (tie.spec
-    sub-len
-    slide-requires
-    read-once-requires
+    (λ c. search needs)
+    (λ c κs. search needs)
+    (λ c κs. search needs)
     landed-requires
-    same-length
+    (λ c. search needs)
     returns
-    same-length-2
+    (λ c. search needs)
     returns-2)

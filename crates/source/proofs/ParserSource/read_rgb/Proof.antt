@@ -8,31 +8,10 @@ use borrow.Author.Needs.{needs}
 use Rattle.source.proofs.ParserSource.read_rgb.Statement.{statement}
 use Rattle.source.proofs.ParserSource.read_rgb.Tie as tie
 
-expect-requires : tie.Need-expect-requires
-expect-requires c κs = search needs
-
-enum-known-e : tie.Need-enum-known-e
-enum-known-e c = search needs
-
-enum-told : tie.Need-enum-told
-enum-told c = search needs
-
-stop-requires : tie.Need-stop-requires
-stop-requires c κs = search needs
-
-same-length : tie.Need-same-length
-same-length c = search needs
-
 returns : tie.Need-returns
 returns c =
     let a = c .before .before .before .before .before .before .before .before .before .before .args in
     sym (colour-stop (now (a .supply)) (now (a .schedule)) (a .self) (now (a .buffer)) (c .stop .result) (elseOf ensuredAnswer ensuredStop (c .before .before .before .before .before .expect .ensures) (c .before .enum-told .given .1) (c .stop .ensures) refl))
-
-read-channels-requires : tie.Need-read-channels-requires
-read-channels-requires c κs = search needs
-
-same-length-2 : tie.Need-same-length-2
-same-length-2 c = search needs
 
 returns-2 : tie.Need-returns-2
 returns-2 c =
@@ -43,12 +22,12 @@ pub read-rgb-spec : {M : Type 1} → statement M
 read-rgb-spec =
     tie.close
     (tie.spec
-    expect-requires
-    enum-known-e
-    enum-told
-    stop-requires
-    same-length
+    (λ c κs. search needs)
+    (λ c. search needs)
+    (λ c. search needs)
+    (λ c κs. search needs)
+    (λ c. search needs)
     returns
-    read-channels-requires
-    same-length-2
+    (λ c κs. search needs)
+    (λ c. search needs)
     returns-2)

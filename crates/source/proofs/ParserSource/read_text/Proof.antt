@@ -14,15 +14,6 @@ use borrow.Author.Needs.{needs}
 use Rattle.source.proofs.ParserSource.read_text.Statement.{statement}
 use Rattle.source.proofs.ParserSource.read_text.Tie as tie
 
-add-whole : tie.Need-add-whole
-add-whole c = search needs
-
-ensure-bytes-requires : tie.Need-ensure-bytes-requires
-ensure-bytes-requires c κs = search needs
-
-enum-known-e : tie.Need-enum-known-e
-enum-known-e c = search needs
-
 add-start : tie.Need-add-start
 add-start c =
     let a = c .before .before .before .before .before .before .before .before .before .before .before .args in
@@ -35,12 +26,6 @@ past-requires c κs =
     let w = ready (now (a .supply)) (now (a .schedule)) (a .self) (now (a .buffer)) (2 + a .len) (gotOf ensuredAnswer (c .before .before .before .before .before .before .ensure-bytes .ensures) (c .before .before .e .given .1)) in
     (omega (arith, w .good, w .there), omega (arith, w .good, w .there))
 
-enum-known-e-2 : tie.Need-enum-known-e-2
-enum-known-e-2 c = search needs
-
-same-length : tie.Need-same-length
-same-length c = search needs
-
 returns : tie.Need-returns
 unfolding stringOf
 returns c =
@@ -49,9 +34,6 @@ returns c =
     let e = c .before .before .before .e .given in
     ap (λ (s : ParserSource). gives (textAt (e .0 .0 .start + 2) (a .len)) s (o .last .1 .1 .0)) (c .past .ensures)
     ∙ sym (then-got _ _ _ _ (gotOf ensuredAnswer (o .ensures) (e .1)))
-
-same-length-2 : tie.Need-same-length-2
-same-length-2 c = search needs
 
 returns-2 : tie.Need-returns-2
 unfolding stringOf
@@ -63,13 +45,13 @@ pub read-text-spec : {M : Type 1} → statement M
 read-text-spec =
     tie.close
     (tie.spec
-    add-whole
-    ensure-bytes-requires
-    enum-known-e
+    (λ c. search needs)
+    (λ c κs. search needs)
+    (λ c. search needs)
     add-start
     past-requires
-    enum-known-e-2
-    same-length
+    (λ c. search needs)
+    (λ c. search needs)
     returns
-    same-length-2
+    (λ c. search needs)
     returns-2)

@@ -7,26 +7,11 @@ use Rattle.source.proofs.Cases.{refilled-bad, sound, ordered, refilled-
 use Rattle.source.proofs.ParserSource.refill.Statement.{statement}
 use Rattle.source.proofs.ParserSource.refill.Tie as tie
 
-check-requires : tie.Need-check-requires
-check-requires c κs = search needs
-
-enum-known-c : tie.Need-enum-known-c
-enum-known-c c = search needs
-
-same-length : tie.Need-same-length
-same-length c = search needs
-
 returns : tie.Need-returns
 returns c =
     let a = c .before .before .before .before .before .before .before .before .args in
     let e = sym (c .before .before .before .check .ensures) ∙ c .before .c .given .1 in
     sym (refilled-bad (now (a .supply)) (now (a .schedule)) (a .self) (now (a .buffer)) e)
-
-enum-told : tie.Need-enum-told
-enum-told c = search needs
-
-same-length-2 : tie.Need-same-length-2
-same-length-2 c = search needs
 
 returns-2 : tie.Need-returns-2
 returns-2 c =
@@ -40,9 +25,6 @@ sub-if2 c =
     let e = sym (c .before .before .before .before .before .check .ensures) ∙ c .before .before .before .enum-told .given .1 in
     ordered (now (a .supply)) (now (a .schedule)) (a .self) (now (a .buffer)) e
 
-same-length-3 : tie.Need-same-length-3
-same-length-3 c = search needs
-
 returns-3 : tie.Need-returns-3
 returns-3 c =
     let a = c .before .before .before .before .before .before .before .before .before .before .before .args in
@@ -55,9 +37,6 @@ read-more-requires c κs =
     let e = sym (c .before .before .before .before .before .before .before .check .ensures) ∙ c .before .before .before .before .before .enum-told .given .1 in
     sound (now (a .supply)) (now (a .schedule)) (a .self) (now (a .buffer)) e (not-false _ (c .before .before .before .if1 .left))
 
-same-length-4 : tie.Need-same-length-4
-same-length-4 c = search needs
-
 returns-4 : tie.Need-returns-4
 returns-4 c =
     let a = c .before .before .before .before .before .before .before .before .before .before .before .before .before .before .before .args in
@@ -68,16 +47,16 @@ pub refill-spec : {M : Type 1} → statement M
 refill-spec =
     tie.close
     (tie.spec
-    check-requires
-    enum-known-c
-    same-length
+    (λ c κs. search needs)
+    (λ c. search needs)
+    (λ c. search needs)
     returns
-    enum-told
-    same-length-2
+    (λ c. search needs)
+    (λ c. search needs)
     returns-2
     sub-if2
-    same-length-3
+    (λ c. search needs)
     returns-3
     read-more-requires
-    same-length-4
+    (λ c. search needs)
     returns-4)

@@ -7,15 +7,6 @@ use Rattle.source.proofs.Cases.{fill-fits, topped-failed, topped-short,
 use Rattle.source.proofs.ParserSource.refill_slow.Statement.{statement}
 use Rattle.source.proofs.ParserSource.refill_slow.Tie as tie
 
-sub-len : tie.Need-sub-len
-sub-len c = search needs
-
-slide-requires : tie.Need-slide-requires
-slide-requires c κs = search needs
-
-fill-up-requires : tie.Need-fill-up-requires
-fill-up-requires c κs = search needs
-
 landed-requires : tie.Need-landed-requires
 landed-requires c κs =
     let s = c .before .before .before .before .before .before .before .before .before .before .before .before in
@@ -23,9 +14,6 @@ landed-requires c κs =
     let f = c .before .before .fill-up in
     let w = rw (← f .ensures .0) at (fill-fits (a .self) (length (c .before .before .before .before .before .before .slide .last .0)) (length (now (a .supply))) (now (a .schedule))) in
     (s .pre .ordered, omega (arith, w, s .pre), omega (arith, w, s .pre), omega (arith, w, s .pre))
-
-same-length : tie.Need-same-length
-same-length c = search needs
 
 returns : tie.Need-returns
 returns c =
@@ -36,9 +24,6 @@ returns c =
     let l = c .before .landed in
     topped-failed (now (a .supply)) (now (a .schedule)) (a .self) (now (a .buffer)) (s .pre) (d .last .0) (f .last .0) (f .result) (l .result) (d .ensures) (f .ensures .1) (l .ensures) _ (f .ensures .0) (c .if1 .taken)
 
-same-length-2 : tie.Need-same-length-2
-same-length-2 c = search needs
-
 returns-2 : tie.Need-returns-2
 returns-2 c =
     let s = c .before .before .before .before .before .before .before .before .before .before .before .before .before .before .before .before in
@@ -47,9 +32,6 @@ returns-2 c =
     let f = c .before .before .before .before .before .before .fill-up in
     let l = c .before .before .before .landed in
     topped-short (now (a .supply)) (now (a .schedule)) (a .self) (now (a .buffer)) (s .pre) (d .last .0) (f .last .0) (f .result) (l .result) (d .ensures) (f .ensures .1) (l .ensures) _ (f .ensures .0) (c .before .before .if1 .left) (c .if2 .taken)
-
-same-length-3 : tie.Need-same-length-3
-same-length-3 c = search needs
 
 returns-3 : tie.Need-returns-3
 returns-3 c =
@@ -64,13 +46,13 @@ pub refill-slow-spec : {M : Type 1} → statement M
 refill-slow-spec =
     tie.close
     (tie.spec
-    sub-len
-    slide-requires
-    fill-up-requires
+    (λ c. search needs)
+    (λ c κs. search needs)
+    (λ c κs. search needs)
     landed-requires
-    same-length
+    (λ c. search needs)
     returns
-    same-length-2
+    (λ c. search needs)
     returns-2
-    same-length-3
+    (λ c. search needs)
     returns-3)

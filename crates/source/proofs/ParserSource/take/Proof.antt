@@ -12,23 +12,11 @@ use Rattle.source.proofs.Through.{then-got, then-stop}
 use Rattle.source.proofs.ParserSource.take.Statement.{statement}
 use Rattle.source.proofs.ParserSource.take.Tie as tie
 
-ensure-bytes-requires : tie.Need-ensure-bytes-requires
-ensure-bytes-requires c κs = search needs
-
-enum-known-e : tie.Need-enum-known-e
-enum-known-e c = search needs
-
 past-requires : tie.Need-past-requires
 past-requires c κs =
     let a = c .before .before .before .before .before .before .before .before .before .before .args in
     let w = ready (now (a .supply)) (now (a .schedule)) (a .self) (now (a .buffer)) (a .count) (gotOf ensuredAnswer (c .before .before .before .before .before .ensure-bytes .ensures) (c .before .e .given .1)) in
     (omega (arith, w .good, w .there), omega (arith, w .good, w .there))
-
-enum-known-e-2 : tie.Need-enum-known-e-2
-enum-known-e-2 c = search needs
-
-same-length : tie.Need-same-length
-same-length c = search needs
 
 returns : tie.Need-returns
 unfolding taken
@@ -39,9 +27,6 @@ returns c =
     ap (λ (s : ParserSource). gives (textAt (e .0 .0 .start) (a .count)) s (o .last .1 .1 .0)) (c .past .ensures)
     ∙ sym (then-got _ _ _ _ (gotOf ensuredAnswer (o .ensures) (e .1)))
 
-same-length-2 : tie.Need-same-length-2
-same-length-2 c = search needs
-
 returns-2 : tie.Need-returns-2
 unfolding taken
 returns-2 c = sym (then-stop _ _ _ _ (gotOf ensuredAnswer (c .before .before .before .before .before .ensure-bytes .ensures) (c .before .e2 .given .1)))
@@ -50,11 +35,11 @@ pub take-spec : {M : Type 1} → statement M
 take-spec =
     tie.close
     (tie.spec
-    ensure-bytes-requires
-    enum-known-e
+    (λ c κs. search needs)
+    (λ c. search needs)
     past-requires
-    enum-known-e-2
-    same-length
+    (λ c. search needs)
+    (λ c. search needs)
     returns
-    same-length-2
+    (λ c. search needs)
     returns-2)

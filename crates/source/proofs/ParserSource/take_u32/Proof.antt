@@ -11,22 +11,10 @@ use borrow.Author.Needs.{needs}
 use Rattle.source.proofs.ParserSource.take_u32.Statement.{statement}
 use Rattle.source.proofs.ParserSource.take_u32.Tie as tie
 
-take-requires : tie.Need-take-requires
-take-requires c κs = search needs
-
-enum-known-t : tie.Need-enum-known-t
-enum-known-t c = search needs
-
 u32-at-requires : tie.Need-u32-at-requires
 u32-at-requires c κs =
     let a = c .before .before .before .before .before .before .before .before .before .before .before .args in
     taken-there (now (a .supply)) (now (a .schedule)) (a .self) (now (a .buffer)) 4 (gotOf takenAnswer (c .before .before .before .before .before .before .take .ensures) (c .before .before .t .given .1))
-
-enum-known-t-2 : tie.Need-enum-known-t-2
-enum-known-t-2 c = search needs
-
-same-length : tie.Need-same-length
-same-length c = search needs
 
 returns : tie.Need-returns
 unfolding number
@@ -35,9 +23,6 @@ returns c =
     let t = c .before .before .before .t .given in
     ap (λ (n : ℕ). gives n (t .0 .1 .0) (o .last .1 .1 .0)) (c .u32-at .ensures)
     ∙ sym (then-got _ _ _ _ (gotOf takenAnswer (o .ensures) (t .1)))
-
-same-length-2 : tie.Need-same-length-2
-same-length-2 c = search needs
 
 returns-2 : tie.Need-returns-2
 unfolding number
@@ -49,11 +34,11 @@ pub take-u32-spec : {M : Type 1} → statement M
 take-u32-spec =
     tie.close
     (tie.spec
-    take-requires
-    enum-known-t
+    (λ c κs. search needs)
+    (λ c. search needs)
     u32-at-requires
-    enum-known-t-2
-    same-length
+    (λ c. search needs)
+    (λ c. search needs)
     returns
-    same-length-2
+    (λ c. search needs)
     returns-2)

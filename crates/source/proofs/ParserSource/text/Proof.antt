@@ -11,39 +11,15 @@ use Rattle.source.specs.Window.{heldIn}
 use Rattle.source.proofs.ParserSource.text.Statement.{statement}
 use Rattle.source.proofs.ParserSource.text.Tie as tie
 
-held-in-requires : tie.Need-held-in-requires
-held-in-requires c κs = search needs
-
-slice-aggregate-result : tie.Need-slice-aggregate-result
-slice-aggregate-result c = search needs
-
 returns : tie.Need-returns
 returns c =
     let a = c .before .before .before .before .before .args in
     rw (beyond (heldIn (now (a .supply)) (a .self) (now (a .buffer))) (a .text) (omega (arith, ap length (c .before .before .held-in .ensures), c .before .if1 .taken)))
 
-sub-if2 : tie.Need-sub-if2
-sub-if2 c = search needs
-
-slice-aggregate-result-2 : tie.Need-slice-aggregate-result-2
-slice-aggregate-result-2 c = search needs
-
 returns-2 : tie.Need-returns-2
 returns-2 c =
     let a = c .before .before .before .before .before .before .args in
     rw (beyond (heldIn (now (a .supply)) (a .self) (now (a .buffer))) (a .text) (omega (arith, ap length (c .before .before .before .held-in .ensures), c .before .if2 .taken)))
-
-add-end : tie.Need-add-end
-add-end c = search needs
-
-sub-result : tie.Need-sub-result
-sub-result c = search needs
-
-part-result-start : tie.Need-part-result-start
-part-result-start c = search needs
-
-part-result-end : tie.Need-part-result-end
-part-result-end c = search needs
 
 returns-3 : tie.Need-returns-3
 returns-3 c =
@@ -58,14 +34,14 @@ pub text-spec : {M : Type 1} → statement M
 text-spec =
     tie.close
     (tie.spec
-    held-in-requires
-    slice-aggregate-result
+    (λ c κs. search needs)
+    (λ c. search needs)
     returns
-    sub-if2
-    slice-aggregate-result-2
+    (λ c. search needs)
+    (λ c. search needs)
     returns-2
-    add-end
-    sub-result
-    part-result-start
-    part-result-end
+    (λ c. search needs)
+    (λ c. search needs)
+    (λ c. search needs)
+    (λ c. search needs)
     returns-3)

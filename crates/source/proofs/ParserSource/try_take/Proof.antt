@@ -8,28 +8,10 @@ use Rattle.source.proofs.Laws.{gotOf, tried-got, tried-stop}
 use Rattle.source.proofs.ParserSource.try_take.Statement.{statement}
 use Rattle.source.proofs.ParserSource.try_take.Tie as tie
 
-take-requires : tie.Need-take-requires
-take-requires c κs = search needs
-
-enum-known-t : tie.Need-enum-known-t
-enum-known-t c = search needs
-
-enum-known-t-2 : tie.Need-enum-known-t-2
-enum-known-t-2 c = search needs
-
-or-nothing-requires : tie.Need-or-nothing-requires
-or-nothing-requires c κs = search needs
-
-same-length : tie.Need-same-length
-same-length c = search needs
-
 returns : tie.Need-returns
 returns c =
     let a = c .before .before .before .before .before .before .before .before .before .before .args in
     sym (tried-got (now (a .supply)) (now (a .schedule)) (a .count) (a .self) (now (a .buffer)) (gotOf takenAnswer (c .before .before .before .before .before .take .ensures) (c .before .t .given .1)))
-
-same-length-2 : tie.Need-same-length-2
-same-length-2 c = search needs
 
 returns-2 : tie.Need-returns-2
 returns-2 c =
@@ -42,11 +24,11 @@ pub try-take-spec : {M : Type 1} → statement M
 try-take-spec =
     tie.close
     (tie.spec
-    take-requires
-    enum-known-t
-    enum-known-t-2
-    or-nothing-requires
-    same-length
+    (λ c κs. search needs)
+    (λ c. search needs)
+    (λ c. search needs)
+    (λ c κs. search needs)
+    (λ c. search needs)
     returns
-    same-length-2
+    (λ c. search needs)
     returns-2)

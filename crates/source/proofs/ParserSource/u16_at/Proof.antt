@@ -8,9 +8,6 @@ use borrow.Author.Needs.{needs}
 use Rattle.source.proofs.ParserSource.u16_at.Statement.{statement}
 use Rattle.source.proofs.ParserSource.u16_at.Tie as tie
 
-held-in-requires : tie.Need-held-in-requires
-held-in-requires c κs = search needs
-
 spelled16-requires : tie.Need-spelled16-requires
 spelled16-requires c κs =
     let s = c .before .before .before in
@@ -22,4 +19,4 @@ returns c =
     c .spelled16 .ensures ∙ ap (λ (l : List ℕ). le (take 2 (drop (a .at) l))) (c .before .held-in .ensures)
 
 pub u16-at-spec : {M : Type 1} → statement M
-u16-at-spec = tie.close (tie.spec held-in-requires spelled16-requires returns)
+u16-at-spec = tie.close (tie.spec (λ c κs. search needs) spelled16-requires returns)

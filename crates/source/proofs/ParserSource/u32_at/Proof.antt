@@ -8,9 +8,6 @@ use borrow.Author.Needs.{needs}
 use Rattle.source.proofs.ParserSource.u32_at.Statement.{statement}
 use Rattle.source.proofs.ParserSource.u32_at.Tie as tie
 
-held-in-requires : tie.Need-held-in-requires
-held-in-requires c κs = search needs
-
 spelled32-requires : tie.Need-spelled32-requires
 spelled32-requires c κs =
     let s = c .before .before .before in
@@ -22,4 +19,4 @@ returns c =
     c .spelled32 .ensures ∙ ap (λ (l : List ℕ). le (take 4 (drop (a .at) l))) (c .before .held-in .ensures)
 
 pub u32-at-spec : {M : Type 1} → statement M
-u32-at-spec = tie.close (tie.spec held-in-requires spelled32-requires returns)
+u32-at-spec = tie.close (tie.spec (λ c κs. search needs) spelled32-requires returns)

@@ -7,21 +7,6 @@ use Rattle.source.proofs.Cases.{window-part-bad, held, ordered, window-
 use Rattle.source.proofs.ParserSource.window.Statement.{statement}
 use Rattle.source.proofs.ParserSource.window.Tie as tie
 
-held-in-requires : tie.Need-held-in-requires
-held-in-requires c κs = search needs
-
-check-requires : tie.Need-check-requires
-check-requires c κs = search needs
-
-enum-told : tie.Need-enum-told
-enum-told c = search needs
-
-slice-aggregate-result : tie.Need-slice-aggregate-result
-slice-aggregate-result c = search needs
-
-enum-told-2 : tie.Need-enum-told-2
-enum-told-2 c = search needs
-
 sub-result : tie.Need-sub-result
 sub-result c =
     let a = c .before .before .before .before .before .before .before .args in
@@ -57,11 +42,11 @@ pub window-spec : {M : Type 1} → statement M
 window-spec =
     tie.close
     (tie.spec
-    held-in-requires
-    check-requires
-    enum-told
-    slice-aggregate-result
-    enum-told-2
+    (λ c κs. search needs)
+    (λ c κs. search needs)
+    (λ c. search needs)
+    (λ c. search needs)
+    (λ c. search needs)
     sub-result
     part-result-start
     part-result-end

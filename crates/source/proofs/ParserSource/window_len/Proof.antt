@@ -6,15 +6,6 @@ use Rattle.source.proofs.Cases.{window-len-bad, ordered, window-len}
 use Rattle.source.proofs.ParserSource.window_len.Statement.{statement}
 use Rattle.source.proofs.ParserSource.window_len.Tie as tie
 
-check-requires : tie.Need-check-requires
-check-requires c κs = search needs
-
-enum-known-c : tie.Need-enum-known-c
-enum-known-c c = search needs
-
-enum-told : tie.Need-enum-told
-enum-told c = search needs
-
 sub-len : tie.Need-sub-len
 sub-len c =
     let a = c .before .before .before .before .before .before .before .args in
@@ -37,9 +28,9 @@ pub window-len-spec : {M : Type 1} → statement M
 window-len-spec =
     tie.close
     (tie.spec
-    check-requires
-    enum-known-c
-    enum-told
+    (λ c κs. search needs)
+    (λ c. search needs)
+    (λ c. search needs)
     sub-len
     returns
     returns-2)

@@ -8,15 +8,6 @@ use borrow.Author.Needs.{needs}
 use Rattle.source.proofs.binary.spelled16.Statement.{statement}
 use Rattle.source.proofs.binary.spelled16.Tie as tie
 
-read-lookup-u16-requires : tie.Need-read-lookup-u16-requires
-read-lookup-u16-requires c κs = search needs
-
-enum-known-r : tie.Need-enum-known-r
-enum-known-r c = search needs
-
-enum-told : tie.Need-enum-told
-enum-told c = search needs
-
 returns : tie.Need-returns
 returns c =
     let a = c .before .before .before .before .before .args in
@@ -29,4 +20,4 @@ returns-2 c =
 
 pub spelled16-spec : {M : Type 1} → statement M
 spelled16-spec =
-    tie.close (tie.spec read-lookup-u16-requires enum-known-r enum-told returns returns-2)
+    tie.close (tie.spec (λ c κs. search needs) (λ c. search needs) (λ c. search needs) returns returns-2)

@@ -8,15 +8,6 @@ use borrow.Author.Needs.{needs}
 use Rattle.source.proofs.binary.spelled32.Statement.{statement}
 use Rattle.source.proofs.binary.spelled32.Tie as tie
 
-read-u32-requires : tie.Need-read-u32-requires
-read-u32-requires c κs = search needs
-
-enum-known-r : tie.Need-enum-known-r
-enum-known-r c = search needs
-
-enum-told : tie.Need-enum-told
-enum-told c = search needs
-
 returns : tie.Need-returns
 returns c =
     let a = c .before .before .before .before .before .args in
@@ -28,4 +19,4 @@ returns-2 c =
     found-not-refused (sym (num-there 4 (now (s .args .bytes)) (s .args .at) (s .pre)) ∙ sym (c .before .before .read-u32 .ensures) ∙ ap u32Answer (c .enum-told .given .1))
 
 pub spelled32-spec : {M : Type 1} → statement M
-spelled32-spec = tie.close (tie.spec read-u32-requires enum-known-r enum-told returns returns-2)
+spelled32-spec = tie.close (tie.spec (λ c κs. search needs) (λ c. search needs) (λ c. search needs) returns returns-2)

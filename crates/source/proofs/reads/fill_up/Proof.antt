@@ -20,9 +20,6 @@ loop-holds c =
     let s = c .before .before .before in
     begins _ _ _ _ _ _ (s .pre .0) (s .pre .1 .0) (s .pre .1 .1)
 
-add-end : tie.Need-add-end Inv-loop μ-loop
-add-end c = omega arith
-
 same-length : tie.Need-same-length Inv-loop μ-loop
 same-length c =
     let a = c .before .before .before .before .before .args in
@@ -34,12 +31,6 @@ returns c =
     let a = c .before .before .before .before .before .args in
     let l = c .before .loop in
     full (now (a .buffer)) (now (a .supply)) (now (a .schedule)) (a .at) (a .from) (a .entry) (l .buffer) (l .got) (l .used) (l .inv) (c .if1 .taken)
-
-add-next : tie.Need-add-next Inv-loop μ-loop
-add-next c = omega arith
-
-add-line : tie.Need-add-line Inv-loop μ-loop
-add-line c = omega arith
 
 read-once-requires : tie.Need-read-once-requires Inv-loop μ-loop
 read-once-requires c κs = (omega (arith, c .before .if1 .left), c .before .before .loop .inv .left)
@@ -108,11 +99,11 @@ fill-up-spec =
     Inv-loop
     μ-loop
     loop-holds
-    add-end
+    (λ c. omega arith)
     same-length
     returns
-    add-next
-    add-line
+    (λ c. omega arith)
+    (λ c. omega arith)
     read-once-requires
     add-used
     same-length-2

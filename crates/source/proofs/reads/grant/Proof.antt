@@ -7,19 +7,10 @@ use Rattle.source.proofs.Filling.{one-past, one-at}
 use Rattle.source.proofs.reads.grant.Statement.{statement}
 use Rattle.source.proofs.reads.grant.Tie as tie
 
-least-requires : tie.Need-least-requires
-least-requires c κs = search needs
-
 returns : tie.Need-returns
 returns c =
     let a = c .before .before .before .args in
     rw (one-past (now (a .schedule)) (a .entry) (a .room) (a .left) (c .if1 .taken), c .before .least .ensures)
-
-mul-e : tie.Need-mul-e
-mul-e c = search needs
-
-shared-slice-read-e : tie.Need-shared-slice-read-e
-shared-slice-read-e c = search needs
 
 returns-2 : tie.Need-returns-2
 returns-2 c =
@@ -28,9 +19,6 @@ returns-2 c =
 
 cast-least : tie.Need-cast-least
 cast-least c = omega (arith, c .before .shared-slice-known2 .given (c .before .before .before .before .before .args .entry))
-
-least-requires-2 : tie.Need-least-requires-2
-least-requires-2 c κs = search needs
 
 returns-3 : tie.Need-returns-3
 returns-3 c =
@@ -41,11 +29,11 @@ pub grant-spec : {M : Type 1} → statement M
 grant-spec =
     tie.close
     (tie.spec
-    least-requires
+    (λ c κs. search needs)
     returns
-    mul-e
-    shared-slice-read-e
+    (λ c. search needs)
+    (λ c. search needs)
     returns-2
     cast-least
-    least-requires-2
+    (λ c κs. search needs)
     returns-3)

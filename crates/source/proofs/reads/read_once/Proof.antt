@@ -8,15 +8,6 @@ use Rattle.source.proofs.Filling.{one-within}
 use Rattle.source.proofs.reads.read_once.Statement.{statement}
 use Rattle.source.proofs.reads.read_once.Tie as tie
 
-sub-room : tie.Need-sub-room
-sub-room c = search needs
-
-sub-left : tie.Need-sub-left
-sub-left c = search needs
-
-grant-requires : tie.Need-grant-requires
-grant-requires c κs = search needs
-
 put-part-requires : tie.Need-put-part-requires
 put-part-requires c κs =
     let s = c .before .before .before .before .before in
@@ -25,12 +16,6 @@ put-part-requires c κs =
     let v = rw (← c .before .grant .ensures) at w in
     (omega (arith, v, s .pre), omega (arith, v, s .pre))
 
-same-length : tie.Need-same-length
-same-length c = search needs
-
-returns : tie.Need-returns
-returns c = search needs
-
 pub read-once-spec : {M : Type 1} → statement M
 read-once-spec =
-    tie.close (tie.spec sub-room sub-left grant-requires put-part-requires same-length returns)
+    tie.close (tie.spec (λ c. search needs) (λ c. search needs) (λ c κs. search needs) put-part-requires (λ c. search needs) (λ c. search needs))

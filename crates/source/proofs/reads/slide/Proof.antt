@@ -23,21 +23,6 @@ loop-holds c = (refl, omega arith, refl, refl)
 slice-read-buffer : tie.Need-slice-read-buffer Inv-loop μ-loop
 slice-read-buffer c = omega arith
 
-slice-write-buffer : tie.Need-slice-write-buffer Inv-loop μ-loop
-slice-write-buffer c = omega arith
-
-add-j : tie.Need-add-j Inv-loop μ-loop
-add-j c = omega arith
-
-add-i : tie.Need-add-i Inv-loop μ-loop
-add-i c = omega arith
-
-sub-left : tie.Need-sub-left Inv-loop μ-loop
-sub-left c = omega arith
-
-loop-less : tie.Need-loop-less Inv-loop μ-loop
-loop-less c = omega arith
-
 loop-again : tie.Need-loop-again Inv-loop μ-loop
 loop-again c =
     let l = c .before .before .loop in (
@@ -57,4 +42,4 @@ returns c =
 
 pub slide-spec : {M : Type 1} → statement M
 slide-spec =
-    tie.close (tie.spec Inv-loop μ-loop loop-holds slice-read-buffer slice-write-buffer add-j add-i sub-left loop-less loop-again same-length returns)
+    tie.close (tie.spec Inv-loop μ-loop loop-holds slice-read-buffer (λ c. omega arith) (λ c. omega arith) (λ c. omega arith) (λ c. omega arith) (λ c. omega arith) loop-again same-length returns)

@@ -5,9 +5,6 @@ use Rattle.payload.proofs.Texts.{within, beyond}
 use Rattle.token.proofs.texts.text.Statement.{statement}
 use Rattle.token.proofs.texts.text.Tie as tie
 
-sub-if2 : tie.Need-sub-if2
-sub-if2 c = search needs
-
 returns : tie.Need-returns
 returns c =
     let a = c .before .before .args in
@@ -24,4 +21,4 @@ returns-3 c =
     rw (beyond (a .bytes .now) (a .t) (omega arith))
 
 pub text-spec : {M : Type 1} → statement M
-text-spec = tie.close (tie.spec sub-if2 returns returns-2 returns-3)
+text-spec = tie.close (tie.spec (λ c. search needs) returns returns-2 returns-3)

@@ -8,66 +8,6 @@ use Rattle.writer.proofs.Splitting.{splits}
 use Rattle.writer.proofs.parts.split.Statement.{statement}
 use Rattle.writer.proofs.parts.split.Tie as tie
 
-enum-told : tie.Need-enum-told
-enum-told c = search needs
-
-enum-told-2 : tie.Need-enum-told-2
-enum-told-2 c = search needs
-
-enum-told-3 : tie.Need-enum-told-3
-enum-told-3 c = search needs
-
-enum-known-token : tie.Need-enum-known-token
-enum-known-token c = search needs
-
-cast-t19 : tie.Need-cast-t19
-cast-t19 c = search needs
-
-enum-known-token-2 : tie.Need-enum-known-token-2
-enum-known-token-2 c = search needs
-
-enum-known-token-3 : tie.Need-enum-known-token-3
-enum-known-token-3 c = search needs
-
-of-i32-requires : tie.Need-of-i32-requires
-of-i32-requires c κs = search needs
-
-enum-known-token-4 : tie.Need-enum-known-token-4
-enum-known-token-4 c = search needs
-
-of-bool-requires : tie.Need-of-bool-requires
-of-bool-requires c κs = search needs
-
-enum-known-token-5 : tie.Need-enum-known-token-5
-enum-known-token-5 c = search needs
-
-enum-known-token-6 : tie.Need-enum-known-token-6
-enum-known-token-6 c = search needs
-
-enum-known-token-7 : tie.Need-enum-known-token-7
-enum-known-token-7 c = search needs
-
-cast-t28 : tie.Need-cast-t28
-cast-t28 c = search needs
-
-enum-known-token-8 : tie.Need-enum-known-token-8
-enum-known-token-8 c = search needs
-
-enum-known-token-9 : tie.Need-enum-known-token-9
-enum-known-token-9 c = search needs
-
-enum-known-token-10 : tie.Need-enum-known-token-10
-enum-known-token-10 c = search needs
-
-of-i64-requires : tie.Need-of-i64-requires
-of-i64-requires c κs = search needs
-
-enum-known-token-11 : tie.Need-enum-known-token-11
-enum-known-token-11 c = search needs
-
-enum-known-token-12 : tie.Need-enum-known-token-12
-enum-known-token-12 c = search needs
-
 returns : tie.Need-returns
 returns c = rw (c .enum-told .given .1) (splits T.Open)
 
@@ -123,26 +63,26 @@ pub split-spec : {M : Type 1} → statement M
 split-spec =
     tie.close
     (tie.spec
-    enum-told
-    enum-told-2
-    enum-told-3
-    enum-known-token
-    cast-t19
-    enum-known-token-2
-    enum-known-token-3
-    of-i32-requires
-    enum-known-token-4
-    of-bool-requires
-    enum-known-token-5
-    enum-known-token-6
-    enum-known-token-7
-    cast-t28
-    enum-known-token-8
-    enum-known-token-9
-    enum-known-token-10
-    of-i64-requires
-    enum-known-token-11
-    enum-known-token-12
+    (λ c. search needs)
+    (λ c. search needs)
+    (λ c. search needs)
+    (λ c. search needs)
+    (λ c. search needs)
+    (λ c. search needs)
+    (λ c. search needs)
+    (λ c κs. search needs)
+    (λ c. search needs)
+    (λ c κs. search needs)
+    (λ c. search needs)
+    (λ c. search needs)
+    (λ c. search needs)
+    (λ c. search needs)
+    (λ c. search needs)
+    (λ c. search needs)
+    (λ c. search needs)
+    (λ c κs. search needs)
+    (λ c. search needs)
+    (λ c. search needs)
     returns
     returns-2
     returns-3

@@ -31,9 +31,6 @@ colour-end-requires c κs =
     let r = c .before .before .before .channel3 .ensures in
     omega (arith, channels-size x, channel-length (x .r), channel-length (x .g), channel-length (x .b), end-size (x .a), p .next, put-length p, q .next, put-length q, r .next, put-length r)
 
-same-length : tie.Need-same-length
-same-length c = search needs
-
 returns : tie.Need-returns
 returns c = put-then (c .before .before .before .before .before .before .before .before .before .before .before .before .before .before .channel .ensures) (put-then (c .before .before .before .before .before .before .before .before .before .before .channel2 .ensures) (put-then (c .before .before .before .before .before .before .channel3 .ensures) (c .before .before .colour-end .ensures)))
 
@@ -45,5 +42,5 @@ channels-spec =
     channel-requires-2
     channel-requires-3
     colour-end-requires
-    same-length
+    (λ c. search needs)
     returns)

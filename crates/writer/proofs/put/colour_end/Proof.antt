@@ -9,16 +9,10 @@ use Rattle.writer.proofs.Sizes.{end-size}
 use Rattle.writer.proofs.put.colour_end.Statement.{statement}
 use Rattle.writer.proofs.put.colour_end.Tie as tie
 
-enum-told : tie.Need-enum-told
-enum-told c = search needs
-
 id-requires : tie.Need-id-requires
 id-requires c κs =
     let e = rw (c .before .enum-told .given .1) at (end-size (c .before .before .before .before .args .a)) in
     omega (arith, rw (c .before .enum-told .given .1) at (c .before .before .before .before .pre))
-
-enum-known-a : tie.Need-enum-known-a
-enum-known-a c = search needs
 
 channel-requires : tie.Need-channel-requires
 channel-requires c κs = omega (arith, rw (c .before .before .a .given .1) at (c .before .before .before .before .before .pre), rw (c .before .before .a .given .1) at (end-size (c .before .before .before .before .before .args .a)))
@@ -26,15 +20,9 @@ channel-requires c κs = omega (arith, rw (c .before .before .a .given .1) at (c
 id-requires-2 : tie.Need-id-requires-2
 id-requires-2 c κs = omega (arith, rw (c .before .before .before .before .before .before .a .given .1) at (c .before .before .before .before .before .before .before .before .before .pre), rw (c .before .before .before .before .before .before .a .given .1) at (end-size (c .before .before .before .before .before .before .before .before .before .args .a)), c .before .before .before .channel .ensures .next, put-length (c .before .before .before .channel .ensures), channel-length (c .before .before .before .before .before .before .a .given .0 .0))
 
-same-length : tie.Need-same-length
-same-length c = search needs
-
 returns : tie.Need-returns
 unfolding spelledAlpha
 returns c = rw (c .before .before .before .before .enum-told .given .1, close-is) (c .before .before .id .ensures)
-
-same-length-2 : tie.Need-same-length-2
-same-length-2 c = search needs
 
 returns-2 : tie.Need-returns-2
 unfolding spelledAlpha
@@ -44,12 +32,12 @@ pub colour-end-spec : {M : Type 1} → statement M
 colour-end-spec =
     tie.close
     (tie.spec
-    enum-told
+    (λ c. search needs)
     id-requires
-    enum-known-a
+    (λ c. search needs)
     channel-requires
     id-requires-2
-    same-length
+    (λ c. search needs)
     returns
-    same-length-2
+    (λ c. search needs)
     returns-2)

@@ -24,12 +24,9 @@ channels-requires c κs =
     let q = c .before .before .before .id2 .ensures in
     omega (arith, colour-size x, channels-size x, p .next, put-length p, q .next, put-length q, length-bytes 2 0x0243, length-bytes 2 0x0003)
 
-same-length : tie.Need-same-length
-same-length c = search needs
-
 returns : tie.Need-returns
 returns c = rw (colour-is, open-is) (put-then (c .before .before .before .before .before .before .before .before .before .before .id .ensures) (put-then (c .before .before .before .before .before .before .id2 .ensures) (c .before .before .channels .ensures)))
 
 pub id-colour-spec : {M : Type 1} → statement M
 id-colour-spec =
-    tie.close (tie.spec id-requires id-requires-2 channels-requires same-length returns)
+    tie.close (tie.spec id-requires id-requires-2 channels-requires (λ c. search needs) returns)

@@ -6,19 +6,13 @@ use Rattle.writer.proofs.Stores.{put-then, put-length}
 use Rattle.writer.proofs.put.id_number.Statement.{statement}
 use Rattle.writer.proofs.put.id_number.Tie as tie
 
-id-requires : tie.Need-id-requires
-id-requires c κs = search needs
-
 number-requires : tie.Need-number-requires
 number-requires c κs =
     let a = c .before .before .before .before .before .before .args in
     omega (arith, c .before .before .before .id .ensures .next, put-length (c .before .before .before .id .ensures), length-bytes 2 (a .x .0))
 
-same-length : tie.Need-same-length
-same-length c = search needs
-
 returns : tie.Need-returns
 returns c = put-then (c .before .before .before .before .before .before .id .ensures) (c .before .before .number .ensures)
 
 pub id-number-spec : {M : Type 1} → statement M
-id-number-spec = tie.close (tie.spec id-requires number-requires same-length returns)
+id-number-spec = tie.close (tie.spec (λ c κs. search needs) number-requires (λ c. search needs) returns)

@@ -8,9 +8,6 @@ use Rattle.writer.proofs.Stores.{put-then, put-length}
 use Rattle.writer.proofs.put.id_text.Statement.{statement}
 use Rattle.writer.proofs.put.id_text.Tie as tie
 
-id-requires : tie.Need-id-requires
-id-requires c κs = search needs
-
 number-requires : tie.Need-number-requires
 number-requires c κs =
     let p = c .before .before .before .id .ensures in
@@ -23,11 +20,8 @@ all-requires c κs =
     let q = c .before .before .before .number .ensures in
     omega (arith, p .next, put-length p, length-bytes 2 (a .x .0), q .next, put-length q, length-bytes 2 (length (now (a .text))))
 
-same-length : tie.Need-same-length
-same-length c = search needs
-
 returns : tie.Need-returns
 returns c = put-then (c .before .before .before .before .before .before .before .before .before .before .id .ensures) (put-then (c .before .before .before .before .before .before .number .ensures) (c .before .before .all .ensures))
 
 pub id-text-spec : {M : Type 1} → statement M
-id-text-spec = tie.close (tie.spec id-requires number-requires all-requires same-length returns)
+id-text-spec = tie.close (tie.spec (λ c κs. search needs) number-requires all-requires (λ c. search needs) returns)

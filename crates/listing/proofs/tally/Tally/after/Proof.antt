@@ -5,33 +5,6 @@ use borrow.Author.Needs.{needs}
 use Rattle.listing.proofs.tally.Tally.after.Statement.{statement}
 use Rattle.listing.proofs.tally.Tally.after.Tie as tie
 
-add-c : tie.Need-add-c
-add-c c = search needs
-
-enum-told : tie.Need-enum-told
-enum-told c = search needs
-
-add-c-2 : tie.Need-add-c-2
-add-c-2 c = search needs
-
-add-c-3 : tie.Need-add-c-3
-add-c-3 c = search needs
-
-enum-told-2 : tie.Need-enum-told-2
-enum-told-2 c = search needs
-
-add-c-4 : tie.Need-add-c-4
-add-c-4 c = search needs
-
-sub-c : tie.Need-sub-c
-sub-c c = search needs
-
-enum-told-3 : tie.Need-enum-told-3
-enum-told-3 c = search needs
-
-add-c-5 : tie.Need-add-c-5
-add-c-5 c = search needs
-
 returns : tie.Need-returns
 unfolding valueOf
 returns c s = rw (c .before .before .enum-told .given .1) (tally-open (c .before .before .before .before .before .args .self))
@@ -59,15 +32,15 @@ pub after-spec : {M : Type 1} → statement M
 after-spec =
     tie.close
     (tie.spec
-    add-c
-    enum-told
-    add-c-2
-    add-c-3
-    enum-told-2
-    add-c-4
-    sub-c
-    enum-told-3
-    add-c-5
+    (λ c. search needs)
+    (λ c. search needs)
+    (λ c. search needs)
+    (λ c. search needs)
+    (λ c. search needs)
+    (λ c. search needs)
+    (λ c. search needs)
+    (λ c. search needs)
+    (λ c. search needs)
     returns
     returns-2
     returns-3

@@ -5,9 +5,6 @@ use borrow.Author.Tests.{not-true, not-false, le-leb, lt-leb}
 use Rattle.source.proofs.answers.Stop.or_nothing.Statement.{statement}
 use Rattle.source.proofs.answers.Stop.or_nothing.Tie as tie
 
-is-eof-requires : tie.Need-is-eof-requires
-is-eof-requires c κs = search needs
-
 returns : tie.Need-returns
 returns c = rw (sym (c .before .is-eof .ensures) ∙ not-true _ (c .if1 .taken))
 
@@ -21,7 +18,7 @@ pub or-nothing-spec : {M : Type 1} → statement M
 or-nothing-spec =
     tie.close
     (tie.spec
-    is-eof-requires
+    (λ c κs. search needs)
     returns
     returns-2
     returns-3)

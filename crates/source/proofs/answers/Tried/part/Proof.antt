@@ -4,24 +4,6 @@ use Rattle.source.specs.Window.{triedPart}
 use Rattle.source.proofs.answers.Tried.part.Statement.{statement}
 use Rattle.source.proofs.answers.Tried.part.Tie as tie
 
-enum-known-self : tie.Need-enum-known-self
-enum-known-self c = search needs
-
-text-requires : tie.Need-text-requires
-text-requires c κs = search needs
-
-enum-told : tie.Need-enum-told
-enum-told c = search needs
-
-slice-aggregate-result : tie.Need-slice-aggregate-result
-slice-aggregate-result c = search needs
-
-enum-told-2 : tie.Need-enum-told-2
-enum-told-2 c = search needs
-
-slice-aggregate-result-2 : tie.Need-slice-aggregate-result-2
-slice-aggregate-result-2 c = search needs
-
 returns : tie.Need-returns
 unfolding triedPart
 returns c = rw (c .before .before .self .given .1) (c .text .ensures)
@@ -38,12 +20,12 @@ pub part-spec : {M : Type 1} → statement M
 part-spec =
     tie.close
     (tie.spec
-    enum-known-self
-    text-requires
-    enum-told
-    slice-aggregate-result
-    enum-told-2
-    slice-aggregate-result-2
+    (λ c. search needs)
+    (λ c κs. search needs)
+    (λ c. search needs)
+    (λ c. search needs)
+    (λ c. search needs)
+    (λ c. search needs)
     returns
     returns-2
     returns-3)
