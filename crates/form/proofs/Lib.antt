@@ -6,6 +6,7 @@ pub mod Inside
 pub mod Lookups
 pub mod Elsewhere
 pub mod Reserved
+pub mod Tags
 pub mod ReadsBack
 pub mod Sound
 pub mod Standing

@@ -14,7 +14,7 @@ use types.Run.{OneOf}
 use Rattle.form.specs.Numbers.{pick, negated}
 use Rattle.form.specs.Values.{F64, Lookup, Id, Unquoted, kind}
 use Rattle.form.specs.Table.{Payload, number, text, nothing, Entry, _is_, _to_is_, table, entries, among, find, orPlain, after, isSome, reserved}
-use Rattle.form.specs.Ids.{sample, alike, findId, idOf, OPEN, CLOSE, CHANNEL}
+use Rattle.form.specs.Ids.{OPEN, CLOSE, CHANNEL}
 use Rattle.form.proofs.Never.{never}
 
 -- ---- what holds of each entry
@@ -71,15 +71,15 @@ plain-after i e = go (find entries i) e
 -- ---- the ids of a colour
 
 pub open-is : OPEN ≡ 0x0003
-unfolding OPEN idOf findId alike sample kind entries table
+unfolding OPEN kind entries table
 open-is = refl
 
 pub close-is : CLOSE ≡ 0x0004
-unfolding CLOSE idOf findId alike sample kind entries table
+unfolding CLOSE kind entries table
 close-is = refl
 
 pub channel-is : CHANNEL ≡ 0x0014
-unfolding CHANNEL idOf findId alike sample kind entries table
+unfolding CHANNEL kind entries table
 channel-is = refl
 
 -- ---- the arms of a `match` on an id

@@ -16,12 +16,13 @@ use borrow.Author.Tests.{le-leb}
 use Rattle.form.specs.Numbers.{leBytes}
 use Rattle.form.specs.Values.{Value, Open, Close, Equal, U32, U64, F32, F64, Lookup, Id, I32, I64, Truth, Quoted, Unquoted, Rgb, kind}
 use Rattle.form.specs.Table.{number, text, table, entries, find, orPlain, after, reserved}
-use Rattle.form.specs.Ids.{sample, alike, findId, idOf, OPEN, CLOSE, CHANNEL}
+use Rattle.form.specs.Ids.{OPEN, CLOSE, CHANNEL}
 use Rattle.form.specs.Readers.{Answer, found, Reader, further, andThen, mapped, _followed-by_, _giving_, give}
 use Rattle.form.specs.Reading.{next, num, string, Channel, channel, withAlpha, ending, headed, judged, rgb, payload, token}
 use Rattle.form.specs.Spelling.{tag, spelledChannel, spelledAlpha, bit, body, spell, writable, InType}
 use Rattle.form.proofs.LittleEndian.{length-bytes, le-bytes}
 use Rattle.form.proofs.Lookups.{plain-after, open-is, close-is, channel-is}
+use Rattle.form.proofs.Tags.{unreserved}
 
 -- ---- the parts
 
@@ -133,16 +134,9 @@ bit-lt : (b : Bool) → bit b < 256
 bit-lt true = lit< tt
 bit-lt false = lit< tt
 
-unreserved : (i : ℕ) → T (not (reserved i)) → reserved i ≡ false
-unreserved i t = go (reserved i) t
-  where
-    go : (b : Bool) → T (not b) → b ≡ false
-    go true t = absurd t
-    go false t = refl
-
 -- THE KEY: what is spelled reads back, whatever follows
 pub reads-back : (v : Value) → InType v → T (writable v) → (s : List ℕ) → token (spell v ++ s) ≡ found v (length (spell v))
-unfolding spell tag body leBytes spelledChannel spelledAlpha after find entries table orPlain writable further payload idOf findId alike sample kind
+unfolding spell tag body leBytes spelledChannel spelledAlpha after find entries table orPlain writable further payload kind
 reads-back Open h w s = number-back 3 0 0 (λ _. Open) (lit< tt) refl (lit< tt) s
 reads-back Close h w s = number-back 4 0 0 (λ _. Close) (lit< tt) refl (lit< tt) s
 reads-back Equal h w s = number-back 1 0 0 (λ _. Equal) (lit< tt) refl (lit< tt) s
@@ -151,7 +145,7 @@ reads-back (U64 n) h w s = number-back 0x29c 8 n U64 (lit< tt) refl h s
 reads-back (F32 n) h w s = number-back 0xd 4 n F32 (lit< tt) refl h s
 reads-back (F64 n) h w s = number-back 0x167 8 n F64 (lit< tt) refl h s
 reads-back (Lookup n) h w s = number-back 0xd41 3 n Lookup (lit< tt) refl (ltb→lt _ _ w) s
-reads-back (Id i) h w s = number-back i 0 0 (λ _. Id i) h (plain-after i (unreserved i w)) (lit< tt) s
+reads-back (Id i) h w s = number-back i 0 0 (λ _. Id i) h (plain-after i (unreserved (reserved i) w)) (lit< tt) s
 reads-back (I32 z) h w s = number-back 0xc 4 (ofZ w32 z) (λ n. I32 (toZ w32 n)) (lit< tt) refl (ofZ-fits w32 z h .fits) s ∙ ap (λ (y : ℤ). found (I32 y) 6) (toZ-ofZ w32 z h)
 reads-back (I64 z) h w s = number-back 0x317 8 (ofZ w64 z) (λ n. I64 (toZ w64 n)) (lit< tt) refl (ofZ-fits w64 z h .fits) s ∙ ap (λ (y : ℤ). found (I64 y) 10) (toZ-ofZ w64 z h)
 reads-back (Truth b) h w s = number-back 0xe 1 (bit b) (λ n. Truth (not (eqb n 0))) (lit< tt) refl (bit-lt b) s ∙ ap (λ (c : Bool). found (Truth c) 3) (bit-back b)

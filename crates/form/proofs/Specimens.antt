@@ -9,7 +9,7 @@ use native.Mathlib.Omega.{arith}
 use Rattle.form.specs.Numbers.{le, leBytes}
 use Rattle.form.specs.Values.{Value, F64, Lookup, Id, kind}
 use Rattle.form.specs.Table.{table, entries, find, orPlain, after}
-use Rattle.form.specs.Ids.{sample, alike, findId, idOf, OPEN, CLOSE, CHANNEL}
+use Rattle.form.specs.Ids.{OPEN, CLOSE, CHANNEL}
 use Rattle.form.specs.Refusals.{Eof, NotEncodable, NoRoom, refusalAt}
 use Rattle.form.specs.Readers.{further, andThen, mapped, _followed-by_, _giving_, at}
 use Rattle.form.specs.Reading.{next, num, string, channel, rgb, payload, token}
@@ -104,7 +104,7 @@ specimens =
 
 -- the definitions answer each specimen as the paper says
 pub specimens-hold : map (λ (s : Specimen). answer (s .ask)) specimens ≡ map (λ (s : Specimen). s .reply) specimens
-unfolding answer specimens save saveNormal _⇒_ le leBytes kind table entries find orPlain after sample alike findId idOf OPEN CLOSE CHANNEL refusalAt further
+unfolding answer specimens save saveNormal _⇒_ le leBytes kind table entries find orPlain after OPEN CLOSE CHANNEL refusalAt further
     andThen mapped _followed-by_ _giving_ next num string channel rgb payload token at within ended reads optional nexts landed skips tag body spell
     writable wide stepped passing orStop closed turned skipF skipping skipContainer skipValue step walkF walk values tokens spellAll normal fitted write
     firstRefusal unless normalise

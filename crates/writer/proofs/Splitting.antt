@@ -13,7 +13,6 @@ use mir.Val.{ofZ}
 use Rattle.form.specs.Numbers.{pick, leBytes}
 use Rattle.form.specs.Values.{kind}
 use Rattle.form.specs.Table.{table, entries}
-use Rattle.form.specs.Ids.{idOf, findId, alike, sample}
 use Rattle.form.specs.Spelling.{tag, body, spell, writable, bit}
 use Rattle.form.specs.Refusals.{NotEncodable, BadPlace}
 use Rattle.form.specs.Writing.{Output, unwritten, fitted, unless, write}
@@ -76,7 +75,7 @@ partsFor (T.Lookup n) = Lookup n
 partsFor (T.Id i) = Id i
 
 pub splits : (t : Token) → Splits t (partsFor t)
-unfolding writeBy misplacedBy writableBy spelledBy writeToken misplaced valueOf write writable spell tag body leBytes unless idOf findId alike sample kind entries table
+unfolding writeBy misplacedBy writableBy spelledBy writeToken misplaced valueOf write writable spell tag body leBytes unless kind entries table
 splits T.Open room s = refl
 splits T.Close room s = refl
 splits T.Equal room s = refl

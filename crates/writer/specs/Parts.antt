@@ -7,9 +7,8 @@ use mathlib.Core.List.{List, _++_}
 use lib.ListN.{length}
 use lib.Dec.{ltb}
 use Rattle.form.specs.Numbers.{pick, leBytes}
-use Rattle.form.specs.Values as F
-use Rattle.form.specs.Table.{number, colour, reserved}
-use Rattle.form.specs.Ids.{idOf, OPEN, CLOSE}
+use Rattle.form.specs.Table.{reserved}
+use Rattle.form.specs.Ids.{OPEN, CLOSE}
 use Rattle.form.specs.Refusals.{Refusal, NotEncodable}
 use Rattle.form.specs.Spelling.{spelledChannel, spelledAlpha}
 use Rattle.form.specs.Writing.{Output, unwritten, fitted, unless}
@@ -39,12 +38,12 @@ abbrev pub channels : Colour → List ℕ
 channels c = spelledChannel (c .r) ++ (spelledChannel (c .g) ++ (spelledChannel (c .b) ++ colourEnd (c .a)))
 
 abbrev pub idColour : Colour → List ℕ
-idColour c = leBytes 2 (idOf colour) ++ (leBytes 2 OPEN ++ channels c)
+idColour c = leBytes 2 0x0243 ++ (leBytes 2 OPEN ++ channels c)
 
 unfoldable pub spelledBy : List ℕ → Parts → List ℕ
 spelledBy s (Number i w n) = idNumber (i .0) w n
 spelledBy s (Text i t) = idText (i .0) (partOf s t)
-spelledBy s (Lookup n) = idNumber (idOf (number 3 F.Lookup)) 3 n
+spelledBy s (Lookup n) = idNumber 0x0d41 3 n
 spelledBy s (Rgb c) = idColour c
 spelledBy s (Id i) = leBytes 2 i
 

@@ -5,7 +5,6 @@ use mathlib.Core.List.{List, [], _∷_}
 use Prim.Native.Nat.{ℕ}
 use Rattle.form.specs.Values.{kind}
 use Rattle.form.specs.Table.{table, entries, find, orPlain, after}
-use Rattle.form.specs.Ids.{sample, alike, findId, idOf}
 use Rattle.form.specs.Spelling.{tag, body, writable, wide}
 use Rattle.form.proofs.Standing.{KeptNumber, KeptText, KeptColour, of-one, Kept, fours, fours-kept, floats, floats-kept, eights, eights-kept, truths, truths-kept, texts, texts-kept, colours, colours-kept}
 use Rattle.payload.specs.Answers.{idAnswer}
@@ -21,13 +20,13 @@ returns : tie.Need-returns
 returns c = tt
 
 returns-2 : tie.Need-returns-2
-unfolding after orPlain find entries table tag body wide kind writable idOf findId alike sample
+unfolding after orPlain find entries table tag body wide kind writable
 returns-2 c =
     let a = c .before .before .before .before .before .before .before .args in
     alone-arm (a .bytes .now) (c .before .before .before .before .before .before .shared-slice-known .given) (a .at) (gotOf idAnswer (c .before .before .before .before .before .read-id .ensures) (c .before .before .before .read .given .1)) (alone-below arms refl _ (c .before .match2 .rest) (c .if1 .taken))
 
 returns-3 : tie.Need-returns-3
-unfolding after orPlain find entries table tag body wide kind writable idOf findId alike sample
+unfolding after orPlain find entries table tag body wide kind writable
 returns-3 c =
     let a = c .before .before .before .before .before .before .before .before .args in
     alone-arm (a .bytes .now) (c .before .before .before .before .before .before .before .shared-slice-known .given) (a .at) (gotOf idAnswer (c .before .before .before .before .before .before .read-id .ensures) (c .before .before .before .before .read .given .1)) (alone-above arms refl _ (c .before .before .match2 .rest) (c .if2 .taken))

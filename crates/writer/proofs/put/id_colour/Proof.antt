@@ -5,7 +5,6 @@ use Rattle.form.proofs.LittleEndian.{length-bytes}
 use Rattle.form.proofs.Lookups.{open-is}
 use Rattle.writer.proofs.Stores.{put-then, put-length}
 use Rattle.writer.proofs.Sizes.{channels-size, colour-size}
-use Rattle.writer.proofs.Ids.{colour-is}
 use Rattle.writer.proofs.put.id_colour.Statement.{statement}
 use Rattle.writer.proofs.put.id_colour.Tie as tie
 
@@ -25,7 +24,7 @@ channels-requires c κs =
     omega (arith, colour-size x, channels-size x, p .next, put-length p, q .next, put-length q, length-bytes 2 0x0243, length-bytes 2 0x0003)
 
 returns : tie.Need-returns
-returns c = rw (colour-is, open-is) (put-then (c .before .before .before .before .before .before .before .before .before .before .id .ensures) (put-then (c .before .before .before .before .before .before .id2 .ensures) (c .before .before .channels .ensures)))
+returns c = rw open-is (put-then (c .before .before .before .before .before .before .before .before .before .before .id .ensures) (put-then (c .before .before .before .before .before .before .id2 .ensures) (c .before .before .channels .ensures)))
 
 pub id-colour-spec : {M : Type 1} → statement M
 id-colour-spec =

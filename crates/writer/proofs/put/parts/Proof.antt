@@ -7,7 +7,6 @@ use Rattle.form.proofs.LittleEndian.{length-bytes}
 use Rattle.payload.specs.Texts.{partOf}
 use Rattle.writer.specs.Parts.{spelledBy}
 use Rattle.writer.proofs.Sizes.{number-size, text-size}
-use Rattle.writer.proofs.Ids.{lookup-is}
 use Rattle.writer.proofs.put.parts.Statement.{statement}
 use Rattle.writer.proofs.put.parts.Tie as tie
 
@@ -28,7 +27,7 @@ id-number-requires-2 : tie.Need-id-number-requires-2
 unfolding spelledBy
 id-number-requires-2 c κs =
     let g = c .before .before .p3 .given in
-    omega (arith, rw (g .1, lookup-is) at (c .before .before .before .before .before .before .pre), number-size 0x0d41 3 (g .0 .0))
+    omega (arith, rw (g .1) at (c .before .before .before .before .before .before .pre), number-size 0x0d41 3 (g .0 .0))
 
 id-colour-requires : tie.Need-id-colour-requires
 unfolding spelledBy
@@ -48,7 +47,7 @@ returns-2 c = rw (c .before .before .before .before .before .before .p2 .given .
 
 returns-3 : tie.Need-returns-3
 unfolding spelledBy
-returns-3 c = rw (c .before .before .before .before .before .p3 .given .1, lookup-is) (c .before .before .id-number2 .ensures)
+returns-3 c = rw (c .before .before .before .before .before .p3 .given .1) (c .before .before .id-number2 .ensures)
 
 returns-4 : tie.Need-returns-4
 unfolding spelledBy
