@@ -1,5 +1,10 @@
 /*
- * Stivlaheim for C: the binary lexer, in libcapi.a (x86-64 Linux). The archive needs nothing else.
+ * Stivlaheim for C: the binary lexer, in libcapi.a (x86-64 Linux). The archive needs nothing else. C99 and C++ alike.
+ *
+ *     rt staticlib capi                                            proves the library and all below it, and makes target/staticlib/libcapi.a
+ *     cc -Iinclude program.c target/staticlib/libcapi.a            compiles a program with it
+ *
+ * examples/tokens.c is such a program: it prints a save's tokens with their texts, and writes its normal form.
  *
  * A slice is two parameters: a pointer to its first element, and the number of its elements.
  *
@@ -22,7 +27,8 @@
  *  - an unsigned number, an id, a float: one, the number (a float's is the one that its bytes spell, little-endian);
  *  - a signed number: one, in two's complement of 64 bits;
  *  - a bool: one, 0 or 1;
- *  - a part of the bytes, such as a string's text: two, where it begins and its length;
+ *  - a part of the bytes, such as a string's text: two, where it begins and its length. It is never a copy: it is good as long as the bytes
+ *    stay as they are (of a source see below);
  *  - a colour: five, red, green, blue, 1 if there is an alpha and 0 if not, and the alpha;
  *  - a token: its kind, and then the words of what it holds.
  */
@@ -185,12 +191,16 @@ uint32_t stivlaheim_count_tokens(const uint8_t *bytes, size_t bytes_len, uint64_
 uint32_t stivlaheim_write(const uint8_t *bytes, size_t bytes_len, uint32_t kind, const uint64_t *words, size_t words_len, uint8_t *out,
                           size_t out_len, uint64_t *answer, size_t answer_len);
 
-/* A save in normal form. TOO_LONG before anything is read; then the first refusal in the order of the file: EOF, INVALID_RGB, or
- * NOT_ENCODABLE with the position of a lookup that needs more than three bytes; then NO_ROOM with the bytes needed. */
+/* The longest save that the next two take, 2^31 bytes. No other call has a limit. */
+#define STIVLAHEIM_LIMIT UINT64_C(2147483648)
+
+/* A save in normal form. TOO_LONG over 2,147,483,648 bytes, before anything is read; then the first refusal in the order of the file: EOF,
+ * INVALID_RGB, or NOT_ENCODABLE with the position of a lookup that needs more than three bytes; then NO_ROOM with the bytes needed. An
+ * output of five times the save's length always suffices; one of no bytes tells what is needed. */
 uint32_t stivlaheim_normalise(const uint8_t *bytes, size_t bytes_len, uint8_t *out, size_t out_len, uint64_t *answer, size_t answer_len);
 
-/* The text that the program dump prints for a save. TOO_LONG before anything is read; NO_ROOM with the bytes needed. A token that cannot be
- * read refuses nothing: the text says so. */
+/* The text that the program dump prints for a save. TOO_LONG over 2,147,483,648 bytes, before anything is read; NO_ROOM with the bytes
+ * needed. A token that cannot be read refuses nothing: the text says so. */
 uint32_t stivlaheim_list(const uint8_t *bytes, size_t bytes_len, uint8_t *out, size_t out_len, uint64_t *answer, size_t answer_len);
 
 /* ---- The window: a source of bytes, whose state is six words that a caller keeps
@@ -204,6 +214,13 @@ uint32_t stivlaheim_list(const uint8_t *bytes, size_t bytes_len, uint8_t *out, s
  *
  * Each call takes the state in `state`, and puts the state to go on with into its first six words, refused or not. Word 0 of the answer is
  * the position after the call; a part's words are where it begins, in the bytes that hold the unread ones, and its length.
+ *
+ * Between the calls on one source the buffer, the supply, the schedule and the state have to come back untouched. Then the bytes read, the
+ * unread ones and what is left of the supply, joined, are the supply. What a caller changes is not noticed, unless a number does not fit: the
+ * calls stay safe, and read what stands there then. A part of a stream stands in the buffer, and is good until the next call that is lent
+ * the buffer to write: such a call may move the unread bytes, and read others over it. (advance, window_len and window do not.) A part of a
+ * slice stands in the supply, and stays.
+ *
  * BAD_ARGUMENT, after the test of the answer list, if `state` has fewer than six words or its sixth is over 1. Then BAD_PLACE with the first
  * number of the state that does not fit, and nothing is moved. BUFFER_TOO_SMALL, READ_FAILED and EOF have the position. */
 

@@ -9,6 +9,7 @@ use lexer::LexerError;
 use lexer::Refusal;
 use token::ReadToken;
 
+// How many tokens there are, with the cursor at the end; the first refusal where not all can be read.
 #[no_mangle]
 pub extern "C" fn stivlaheim_count_tokens(bytes: &[u8], answer: &mut [u64]) -> u32
     ensures { λ r. ⌜ returned r (now (answer .exit)) ≡ into (now (answer .entry)) (countReply (now (bytes .entry))) ⌝ }

@@ -8,6 +8,7 @@ ghost use Rattle.lexeme.specs.Kinds.{kindNumber};
 use lexeme::LexemeId;
 use lexeme::TokenKind;
 
+// The number of the kind of the token that starts with this id.
 #[no_mangle]
 pub extern "C" fn stivlaheim_into_kind(id: u16) -> u32
     ensures { λ r. ⌜ r ≡ kind (sample (after id)) ⌝ }
@@ -38,6 +39,7 @@ pub(crate) fn kind_number(k: TokenKind) -> u32
     }
 }
 
+// Whether the id is none of the reserved ones.
 #[no_mangle]
 pub extern "C" fn stivlaheim_is_id(id: u16) -> bool
     ensures { λ r. ⌜ r ≡ not (reserved id) ⌝ }

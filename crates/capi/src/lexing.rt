@@ -13,6 +13,7 @@ use crate::replies;
 use lexeme::LexemeId;
 use lexer::Lexer;
 
+// An id: two bytes.
 #[no_mangle]
 pub extern "C" fn stivlaheim_read_id(bytes: &[u8], at: usize, answer: &mut [u64]) -> u32
     ensures { λ r. ⌜ returned r (now (answer .exit)) ≡ into (now (answer .entry)) (replyOf numberWords (reads (readAt (num 2)) (now (bytes .entry)) (cursor at))) ⌝ }
@@ -39,6 +40,7 @@ pub extern "C" fn stivlaheim_peek_id(bytes: &[u8], at: usize, answer: &mut [u64]
     replies::store(answer, answers::of_peek_id(c, c.peek_id(bytes)))
 }
 
+// A token: an id and its payload.
 #[no_mangle]
 pub extern "C" fn stivlaheim_read_token(bytes: &[u8], at: usize, answer: &mut [u64]) -> u32
     ensures { λ r. ⌜ returned r (now (answer .exit)) ≡ into (now (answer .entry)) (replyOf tokenWords (reads tokenAt (now (bytes .entry)) (cursor at))) ⌝ }
@@ -47,6 +49,7 @@ pub extern "C" fn stivlaheim_read_token(bytes: &[u8], at: usize, answer: &mut [u
     replies::store(answer, answers::of_token(c, c.read_token(bytes)))
 }
 
+// The next token; none at the end.
 #[no_mangle]
 pub extern "C" fn stivlaheim_next_token(bytes: &[u8], at: usize, answer: &mut [u64]) -> u32
     ensures { λ r. ⌜ returned r (now (answer .exit)) ≡ into (now (answer .entry)) (replyOrNone tokenWords (nexts tokenAt (now (bytes .entry)) (cursor at))) ⌝ }
@@ -55,6 +58,7 @@ pub extern "C" fn stivlaheim_next_token(bytes: &[u8], at: usize, answer: &mut [u
     replies::store(answer, answers::of_next_token(c, c.next_token(bytes)))
 }
 
+// The next token, with the cursor left where it is; none where it is refused.
 #[no_mangle]
 pub extern "C" fn stivlaheim_peek_token(bytes: &[u8], at: usize, answer: &mut [u64]) -> u32
     ensures { λ r. ⌜ returned r (now (answer .exit)) ≡ into (now (answer .entry)) (replyOrNone tokenWords (peeks tokenAt (now (bytes .entry)) (cursor at))) ⌝ }
@@ -63,6 +67,7 @@ pub extern "C" fn stivlaheim_peek_token(bytes: &[u8], at: usize, answer: &mut [u
     replies::store(answer, answers::of_peek_token(c, c.peek_token(bytes)))
 }
 
+// A string, after its id: the part that holds its text.
 #[no_mangle]
 pub extern "C" fn stivlaheim_read_string(bytes: &[u8], at: usize, answer: &mut [u64]) -> u32
     ensures { λ r. ⌜ returned r (now (answer .exit)) ≡ into (now (answer .entry)) (replyOf textWords (reads stringAt (now (bytes .entry)) (cursor at))) ⌝ }
@@ -71,6 +76,7 @@ pub extern "C" fn stivlaheim_read_string(bytes: &[u8], at: usize, answer: &mut [
     replies::store(answer, answers::of_string(c, c.read_string(bytes)))
 }
 
+// A bool: one byte, true where it is not zero.
 #[no_mangle]
 pub extern "C" fn stivlaheim_read_bool(bytes: &[u8], at: usize, answer: &mut [u64]) -> u32
     ensures { λ r. ⌜ returned r (now (answer .exit)) ≡ into (now (answer .entry)) (replyOf boolWords (reads boolAt (now (bytes .entry)) (cursor at))) ⌝ }
@@ -79,6 +85,7 @@ pub extern "C" fn stivlaheim_read_bool(bytes: &[u8], at: usize, answer: &mut [u6
     replies::store(answer, answers::of_bool(c, c.read_bool(bytes)))
 }
 
+// A lookup of one byte.
 #[no_mangle]
 pub extern "C" fn stivlaheim_read_lookup_u8(bytes: &[u8], at: usize, answer: &mut [u64]) -> u32
     ensures { λ r. ⌜ returned r (now (answer .exit)) ≡ into (now (answer .entry)) (replyOf numberWords (reads (readAt (num 1)) (now (bytes .entry)) (cursor at))) ⌝ }
@@ -87,6 +94,7 @@ pub extern "C" fn stivlaheim_read_lookup_u8(bytes: &[u8], at: usize, answer: &mu
     replies::store(answer, answers::of_u8(c, c.read_lookup_u8(bytes)))
 }
 
+// A lookup of two bytes.
 #[no_mangle]
 pub extern "C" fn stivlaheim_read_lookup_u16(bytes: &[u8], at: usize, answer: &mut [u64]) -> u32
     ensures { λ r. ⌜ returned r (now (answer .exit)) ≡ into (now (answer .entry)) (replyOf numberWords (reads (readAt (num 2)) (now (bytes .entry)) (cursor at))) ⌝ }
@@ -95,6 +103,7 @@ pub extern "C" fn stivlaheim_read_lookup_u16(bytes: &[u8], at: usize, answer: &m
     replies::store(answer, answers::of_u16(c, c.read_lookup_u16(bytes)))
 }
 
+// A lookup of three bytes.
 #[no_mangle]
 pub extern "C" fn stivlaheim_read_lookup_u24(bytes: &[u8], at: usize, answer: &mut [u64]) -> u32
     ensures { λ r. ⌜ returned r (now (answer .exit)) ≡ into (now (answer .entry)) (replyOf numberWords (reads (readAt (num 3)) (now (bytes .entry)) (cursor at))) ⌝ }
@@ -103,6 +112,7 @@ pub extern "C" fn stivlaheim_read_lookup_u24(bytes: &[u8], at: usize, answer: &m
     replies::store(answer, answers::of_u32(c, c.read_lookup_u24(bytes)))
 }
 
+// A lookup of four bytes.
 #[no_mangle]
 pub extern "C" fn stivlaheim_read_lookup_u32(bytes: &[u8], at: usize, answer: &mut [u64]) -> u32
     ensures { λ r. ⌜ returned r (now (answer .exit)) ≡ into (now (answer .entry)) (replyOf numberWords (reads (readAt (num 4)) (now (bytes .entry)) (cursor at))) ⌝ }
@@ -111,6 +121,7 @@ pub extern "C" fn stivlaheim_read_lookup_u32(bytes: &[u8], at: usize, answer: &m
     replies::store(answer, answers::of_u32(c, c.read_lookup_u32(bytes)))
 }
 
+// An unsigned number of four bytes.
 #[no_mangle]
 pub extern "C" fn stivlaheim_read_u32(bytes: &[u8], at: usize, answer: &mut [u64]) -> u32
     ensures { λ r. ⌜ returned r (now (answer .exit)) ≡ into (now (answer .entry)) (replyOf numberWords (reads (readAt (num 4)) (now (bytes .entry)) (cursor at))) ⌝ }
@@ -119,6 +130,7 @@ pub extern "C" fn stivlaheim_read_u32(bytes: &[u8], at: usize, answer: &mut [u64
     replies::store(answer, answers::of_u32(c, c.read_u32(bytes)))
 }
 
+// An unsigned number of eight bytes.
 #[no_mangle]
 pub extern "C" fn stivlaheim_read_u64(bytes: &[u8], at: usize, answer: &mut [u64]) -> u32
     ensures { λ r. ⌜ returned r (now (answer .exit)) ≡ into (now (answer .entry)) (replyOf numberWords (reads (readAt (num 8)) (now (bytes .entry)) (cursor at))) ⌝ }
@@ -127,6 +139,7 @@ pub extern "C" fn stivlaheim_read_u64(bytes: &[u8], at: usize, answer: &mut [u64
     replies::store(answer, answers::of_u64(c, c.read_u64(bytes)))
 }
 
+// A signed number of four bytes, as the bits of one of eight.
 #[no_mangle]
 pub extern "C" fn stivlaheim_read_i32(bytes: &[u8], at: usize, answer: &mut [u64]) -> u32
     ensures { λ r. ⌜ returned r (now (answer .exit)) ≡ into (now (answer .entry)) (replyOf signedWords (reads i32At (now (bytes .entry)) (cursor at))) ⌝ }
@@ -135,6 +148,7 @@ pub extern "C" fn stivlaheim_read_i32(bytes: &[u8], at: usize, answer: &mut [u64
     replies::store(answer, answers::of_i32(c, c.read_i32(bytes)))
 }
 
+// A signed number of eight bytes, as its bits.
 #[no_mangle]
 pub extern "C" fn stivlaheim_read_i64(bytes: &[u8], at: usize, answer: &mut [u64]) -> u32
     ensures { λ r. ⌜ returned r (now (answer .exit)) ≡ into (now (answer .entry)) (replyOf signedWords (reads i64At (now (bytes .entry)) (cursor at))) ⌝ }
@@ -152,6 +166,7 @@ pub extern "C" fn stivlaheim_read_f32(bytes: &[u8], at: usize, answer: &mut [u64
     replies::store(answer, answers::of_u32(c, c.read_f32(bytes)))
 }
 
+// The number that the eight bytes of a float spell.
 #[no_mangle]
 pub extern "C" fn stivlaheim_read_f64(bytes: &[u8], at: usize, answer: &mut [u64]) -> u32
     ensures { λ r. ⌜ returned r (now (answer .exit)) ≡ into (now (answer .entry)) (replyOf numberWords (reads (readAt (num 8)) (now (bytes .entry)) (cursor at))) ⌝ }

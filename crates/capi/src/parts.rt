@@ -12,6 +12,7 @@ use payload::Text;
 use split::Split;
 use token::TextAnswer;
 
+// The first bytes, so many, and how many follow; none where there are fewer.
 #[no_mangle]
 pub extern "C" fn stivlaheim_get_split(bytes: &[u8], count: usize, answer: &mut [u64]) -> u32
     ensures { λ r. ⌜ returned r (now (answer .exit)) ≡ into (now (answer .entry)) (splitReply (now (bytes .entry)) (splitAt (now (bytes .entry)) count)) ⌝ }
@@ -32,6 +33,7 @@ fn split_reply(bytes: &[u8], count: usize) -> Reply
     }
 }
 
+// The part of the bytes that holds a text; refused where they do not hold it.
 #[no_mangle]
 pub extern "C" fn stivlaheim_text(bytes: &[u8], start: usize, len: usize, answer: &mut [u64]) -> u32
     ensures { λ r. ⌜ returned r (now (answer .exit)) ≡ into (now (answer .entry)) (textReply (record { start = start; len = len }) (placeOf (now (bytes .entry)) (record { start = start; len = len }))) ⌝ }

@@ -14,18 +14,21 @@ pub struct LexerError {
 }
 
 impl LexerError {
+    // Where the refused read began.
     pub fn position(self) -> usize
         ensures { λ r. ⌜ r ≡ self .position ⌝ }
     {
         self.position
     }
 
+    // Why it is refused.
     pub fn kind(self) -> LexError
         ensures { λ r. ⌜ r ≡ self .kind ⌝ }
     {
         self.kind
     }
 
+    // As `kind`.
     pub fn into_kind(self) -> LexError
         ensures { λ r. ⌜ r ≡ self .kind ⌝ }
     {

@@ -43,12 +43,14 @@ enum Place {
 }
 
 impl Lexer {
+    // The cursor at the start of an input.
     pub fn new() -> Self
         ensures { λ r. ⌜ cursorOf r ≡ atStart ⌝ }
     {
         Lexer { at: 0 }
     }
 
+    // How many bytes of the input stand before the cursor.
     pub fn position(self) -> usize
         ensures { λ r. ⌜ r ≡ positionOf (cursorOf self) (cursorOf self .at) ⌝ }
     {

@@ -30,6 +30,7 @@ use payload::ReadU32;
 use payload::ReadU64;
 
 impl Lexer {
+    // An id: two bytes.
     pub fn read_id(self, bytes: &[u8]) -> LexId
         ensures { λ r. ⌜ idCall self r ≡ reads (readAt (num 2)) (now (bytes .entry)) (cursorOf self) ⌝ }
     {
@@ -73,6 +74,7 @@ impl Lexer {
         }
     }
 
+    // A string, after its id: where its text stands.
     pub fn read_string(self, bytes: &[u8]) -> LexString
         ensures { λ r. ⌜ stringCall self r ≡ reads stringAt (now (bytes .entry)) (cursorOf self) ⌝ }
     {
@@ -84,6 +86,7 @@ impl Lexer {
         LexString::Got(x, self.moved(next))
     }
 
+    // A bool: one byte, true where it is not zero.
     pub fn read_bool(self, bytes: &[u8]) -> LexBool
         ensures { λ r. ⌜ boolCall self r ≡ reads boolAt (now (bytes .entry)) (cursorOf self) ⌝ }
     {
@@ -95,6 +98,7 @@ impl Lexer {
         LexBool::Got(x, self.moved(next))
     }
 
+    // A lookup of one byte.
     pub fn read_lookup_u8(self, bytes: &[u8]) -> LexU8
         ensures { λ r. ⌜ u8Call self r ≡ reads (readAt (num 1)) (now (bytes .entry)) (cursorOf self) ⌝ }
     {
@@ -106,6 +110,7 @@ impl Lexer {
         LexU8::Got(x, self.moved(next))
     }
 
+    // A lookup of two bytes.
     pub fn read_lookup_u16(self, bytes: &[u8]) -> LexU16
         ensures { λ r. ⌜ u16Call self r ≡ reads (readAt (num 2)) (now (bytes .entry)) (cursorOf self) ⌝ }
     {
@@ -117,6 +122,7 @@ impl Lexer {
         LexU16::Got(x, self.moved(next))
     }
 
+    // A lookup of three bytes.
     pub fn read_lookup_u24(self, bytes: &[u8]) -> LexU32
         ensures { λ r. ⌜ u32Call self r ≡ reads (readAt (num 3)) (now (bytes .entry)) (cursorOf self) ⌝ }
     {
@@ -128,12 +134,14 @@ impl Lexer {
         LexU32::Got(x, self.moved(next))
     }
 
+    // A lookup of four bytes.
     pub fn read_lookup_u32(self, bytes: &[u8]) -> LexU32
         ensures { λ r. ⌜ u32Call self r ≡ reads (readAt (num 4)) (now (bytes .entry)) (cursorOf self) ⌝ }
     {
         self.read_u32(bytes)
     }
 
+    // An unsigned number of four bytes.
     pub fn read_u32(self, bytes: &[u8]) -> LexU32
         ensures { λ r. ⌜ u32Call self r ≡ reads (readAt (num 4)) (now (bytes .entry)) (cursorOf self) ⌝ }
     {
@@ -145,6 +153,7 @@ impl Lexer {
         LexU32::Got(x, self.moved(next))
     }
 
+    // An unsigned number of eight bytes.
     pub fn read_u64(self, bytes: &[u8]) -> LexU64
         ensures { λ r. ⌜ u64Call self r ≡ reads (readAt (num 8)) (now (bytes .entry)) (cursorOf self) ⌝ }
     {
@@ -156,6 +165,7 @@ impl Lexer {
         LexU64::Got(x, self.moved(next))
     }
 
+    // A signed number of eight bytes.
     pub fn read_i64(self, bytes: &[u8]) -> LexI64
         ensures { λ r. ⌜ i64Call self r ≡ reads i64At (now (bytes .entry)) (cursorOf self) ⌝ }
     {
@@ -167,6 +177,7 @@ impl Lexer {
         LexI64::Got(x, self.moved(next))
     }
 
+    // A signed number of four bytes.
     pub fn read_i32(self, bytes: &[u8]) -> LexI32
         ensures { λ r. ⌜ i32Call self r ≡ reads i32At (now (bytes .entry)) (cursorOf self) ⌝ }
     {
@@ -185,6 +196,7 @@ impl Lexer {
         self.read_u32(bytes)
     }
 
+    // The number that the eight bytes of a float spell.
     pub fn read_f64(self, bytes: &[u8]) -> LexU64
         ensures { λ r. ⌜ u64Call self r ≡ reads (readAt (num 8)) (now (bytes .entry)) (cursorOf self) ⌝ }
     {

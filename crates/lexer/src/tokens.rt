@@ -11,6 +11,7 @@ use crate::answers::Refusal;
 use token::ReadToken;
 
 impl Lexer {
+    // A token: an id and its payload.
     pub fn read_token(self, bytes: &[u8]) -> LexToken
         ensures { λ r. ⌜ tokenCall self r ≡ reads tokenAt (now (bytes .entry)) (cursorOf self) ⌝ }
     {

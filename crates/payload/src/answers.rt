@@ -51,6 +51,7 @@ pub enum ReadU16 {
 }
 
 impl ReadU16 {
+    // As of a ReadU8.
     pub fn refusal(self) -> LexError
         ensures { λ r. ⌜ faultOf r ≡ why (u16Answer self) ⌝ }
     {
@@ -67,6 +68,7 @@ pub enum ReadU32 {
 }
 
 impl ReadU32 {
+    // As of a ReadU8.
     pub fn refusal(self) -> LexError
         ensures { λ r. ⌜ faultOf r ≡ why (u32Answer self) ⌝ }
     {
@@ -83,6 +85,7 @@ pub enum ReadU64 {
 }
 
 impl ReadU64 {
+    // As of a ReadU8.
     pub fn refusal(self) -> LexError
         ensures { λ r. ⌜ faultOf r ≡ why (u64Answer self) ⌝ }
     {
@@ -99,6 +102,7 @@ pub enum ReadI32 {
 }
 
 impl ReadI32 {
+    // As of a ReadU8.
     pub fn refusal(self) -> LexError
         ensures { λ r. ⌜ faultOf r ≡ why (i32Answer self) ⌝ }
     {
@@ -115,6 +119,7 @@ pub enum ReadI64 {
 }
 
 impl ReadI64 {
+    // As of a ReadU8.
     pub fn refusal(self) -> LexError
         ensures { λ r. ⌜ faultOf r ≡ why (i64Answer self) ⌝ }
     {
@@ -131,6 +136,7 @@ pub enum ReadBool {
 }
 
 impl ReadBool {
+    // As of a ReadU8.
     pub fn refusal(self) -> LexError
         ensures { λ r. ⌜ faultOf r ≡ why (boolAnswer self) ⌝ }
     {
@@ -147,6 +153,7 @@ pub enum ReadId {
 }
 
 impl ReadId {
+    // As of a ReadU8.
     pub fn refusal(self) -> LexError
         ensures { λ r. ⌜ faultOf r ≡ why (idAnswer self) ⌝ }
     {
@@ -163,6 +170,7 @@ pub enum ReadString {
 }
 
 impl ReadString {
+    // As of a ReadU8.
     pub fn refusal(self) -> LexError
         ensures { λ r. ⌜ faultOf r ≡ why (textAnswer self) ⌝ }
     {
@@ -179,6 +187,7 @@ pub enum ReadRgb {
 }
 
 impl ReadRgb {
+    // As of a ReadU8.
     pub fn refusal(self) -> LexError
         ensures { λ r. ⌜ faultOf r ≡ why (rgbAnswer self) ⌝ }
     {

@@ -4,6 +4,7 @@ ghost use mir.Syntax.{w32, w64};
 ghost use mir.Val.{ofZ};
 ghost use Rattle.form.specs.Spelling.{bit};
 
+// 1 for true, 0 for false.
 pub fn of_bool(x: bool) -> u64
     ensures { λ r. ⌜ r ≡ bit x ⌝ }
 {
@@ -22,6 +23,7 @@ pub fn of_i32(x: i32) -> u64
     }
 }
 
+// The same of 64 bits.
 pub fn of_i64(x: i64) -> u64
     ensures { λ r. ⌜ r ≡ ofZ w64 x ⌝ }
 {

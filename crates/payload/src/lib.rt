@@ -31,6 +31,7 @@ pub use crate::answers::Text;
 pub use crate::numbers::signed64;
 use lexeme::LexemeId;
 
+// An id: two bytes.
 pub fn read_id(bytes: &[u8], at: usize) -> ReadId
     ensures { λ r. ⌜ idAnswer r ≡ readAt (num 2) (now (bytes .entry)) at ⌝ }
 {
@@ -57,6 +58,7 @@ pub fn read_string(bytes: &[u8], at: usize) -> ReadString
     ReadString::Got(Text { start, len }, next)
 }
 
+// A bool: one byte, true where it is not zero.
 pub fn read_bool(bytes: &[u8], at: usize) -> ReadBool
     ensures { λ r. ⌜ boolAnswer r ≡ mapped (λ x. not (eqb x 0)) (readAt (num 1) (now (bytes .entry)) at) ⌝ }
 {
@@ -67,18 +69,21 @@ pub fn read_bool(bytes: &[u8], at: usize) -> ReadBool
     ReadBool::Got(x != 0, next)
 }
 
+// An unsigned number of four bytes.
 pub fn read_u32(bytes: &[u8], at: usize) -> ReadU32
     ensures { λ r. ⌜ u32Answer r ≡ readAt (num 4) (now (bytes .entry)) at ⌝ }
 {
     numbers::read_width32(bytes, at, 4)
 }
 
+// An unsigned number of eight bytes.
 pub fn read_u64(bytes: &[u8], at: usize) -> ReadU64
     ensures { λ r. ⌜ u64Answer r ≡ readAt (num 8) (now (bytes .entry)) at ⌝ }
 {
     numbers::read_width(bytes, at, 8)
 }
 
+// A signed number of four bytes.
 pub fn read_i32(bytes: &[u8], at: usize) -> ReadI32
     ensures { λ r. ⌜ i32Answer r ≡ mapped (toZ w32) (readAt (num 4) (now (bytes .entry)) at) ⌝ }
 {
@@ -89,6 +94,7 @@ pub fn read_i32(bytes: &[u8], at: usize) -> ReadI32
     ReadI32::Got(numbers::signed32(x), next)
 }
 
+// A signed number of eight bytes.
 pub fn read_i64(bytes: &[u8], at: usize) -> ReadI64
     ensures { λ r. ⌜ i64Answer r ≡ mapped (toZ w64) (readAt (num 8) (now (bytes .entry)) at) ⌝ }
 {
@@ -106,12 +112,14 @@ pub fn read_f32(bytes: &[u8], at: usize) -> ReadU32
     read_u32(bytes, at)
 }
 
+// The number that the eight bytes of a float spell.
 pub fn read_f64(bytes: &[u8], at: usize) -> ReadU64
     ensures { λ r. ⌜ u64Answer r ≡ readAt (num 8) (now (bytes .entry)) at ⌝ }
 {
     read_u64(bytes, at)
 }
 
+// A lookup of one byte.
 pub fn read_lookup_u8(bytes: &[u8], at: usize) -> ReadU8
     ensures { λ r. ⌜ u8Answer r ≡ readAt (num 1) (now (bytes .entry)) at ⌝ }
 {
@@ -123,6 +131,7 @@ pub fn read_lookup_u8(bytes: &[u8], at: usize) -> ReadU8
     ReadU8::Got(value, next)
 }
 
+// A lookup of two bytes.
 pub fn read_lookup_u16(bytes: &[u8], at: usize) -> ReadU16
     ensures { λ r. ⌜ u16Answer r ≡ readAt (num 2) (now (bytes .entry)) at ⌝ }
 {
@@ -134,12 +143,14 @@ pub fn read_lookup_u16(bytes: &[u8], at: usize) -> ReadU16
     ReadU16::Got(value, next)
 }
 
+// A lookup of three bytes.
 pub fn read_lookup_u24(bytes: &[u8], at: usize) -> ReadU32
     ensures { λ r. ⌜ u32Answer r ≡ readAt (num 3) (now (bytes .entry)) at ⌝ }
 {
     numbers::read_width32(bytes, at, 3)
 }
 
+// A lookup of four bytes.
 pub fn read_lookup_u32(bytes: &[u8], at: usize) -> ReadU32
     ensures { λ r. ⌜ u32Answer r ≡ readAt (num 4) (now (bytes .entry)) at ⌝ }
 {

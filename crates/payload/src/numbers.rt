@@ -64,6 +64,7 @@ pub(crate) fn signed32(x: u64) -> i32
     }
 }
 
+// The number that 64 bits spell in two's complement.
 pub fn signed64(x: u64) -> i64
     ensures { λ r. ⌜ r ≡ toZ w64 x ⌝ }
 {

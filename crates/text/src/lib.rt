@@ -61,6 +61,7 @@ fn magnitude(x: i64) -> u64
     }
 }
 
+// The decimal digits of x, after a minus where it is below zero.
 pub fn put_signed(out: &mut [u8], at: usize, x: i64) -> usize
     ensures { λ r. ⌜ Put (now (out .entry)) at (signed x) (now (out .exit)) r ⌝ }
 {
@@ -128,6 +129,7 @@ pub fn put_le(out: &mut [u8], at: usize, width: usize, x: u64) -> usize
     next
 }
 
+// The word `true` or `false`.
 pub fn put_truth(out: &mut [u8], at: usize, b: bool) -> usize
     ensures { λ r. ⌜ Put (now (out .entry)) at (truth b) (now (out .exit)) r ⌝ }
 {

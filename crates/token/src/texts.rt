@@ -10,6 +10,7 @@ pub enum TextAnswer {
     BadPlace(usize),
 }
 
+// Whether the bytes hold the text.
 pub fn text(bytes: &[u8], t: Text) -> TextAnswer
     ensures { λ r. ⌜ placeAnswer r ≡ placeOf (now (bytes .entry)) t ⌝ }
 {

@@ -1,0 +1,218 @@
+/*
+ * Prints the tokens of a save, and writes its normal form. C99 and C++ alike; examples/check compiles it as both, and runs it.
+ *
+ *     tokens SAVE [NORMAL-FORM]
+ *
+ * A line for each token: its position, its kind, its value. A text stands in quotes, with the bytes that are not printable ASCII, and quotes
+ * and backslashes, as \xNN. A float is its bytes in hex, the lowest first. The exit status is 0 if all is well; 1 if the save is refused, and
+ * standard error has the refusal; 2 if something cannot be read or written.
+ */
+#include <errno.h>
+#include <inttypes.h>
+#include <stdio.h>
+#include <stdlib.h>
+#include <string.h>
+
+#include "stivlaheim.h"
+
+enum { WELL = 0, REFUSED = 1, FAILED = 2 };
+
+struct save {
+    const char *name;
+    uint8_t *bytes;
+    size_t len;
+};
+
+static const char *const KINDS[] = {"open",     "close", "equal", "u32", "u64", "i32",    "bool", "quoted",
+                                    "unquoted", "f32",   "f64",   "rgb", "i64", "lookup", "id"};
+
+static int failed(const char *what, const char *name) {
+    fprintf(stderr, "tokens: %s %s: %s\n", what, name, strerror(errno));
+    return FAILED;
+}
+
+/* The refusals that these calls have, each with its number: a position, or the length of a save that is too long. */
+static int refused(const struct save *save, uint32_t code, uint64_t number) {
+    const char *why = "refused";
+    switch (code) {
+    case STIVLAHEIM_EOF: why = "Eof at"; break;
+    case STIVLAHEIM_INVALID_RGB: why = "InvalidRgb at"; break;
+    case STIVLAHEIM_NOT_ENCODABLE: why = "NotEncodable at"; break;
+    case STIVLAHEIM_BAD_PLACE: why = "BadPlace at"; break;
+    case STIVLAHEIM_TOO_LONG: why = "TooLong, bytes:"; break;
+    }
+    fprintf(stderr, "tokens: %s: %s %" PRIu64 "\n", save->name, why, number);
+    return REFUSED;
+}
+
+/* ---- reading the file */
+
+/* Room for more bytes; false where there is none. */
+static bool grow(struct save *save, size_t *room) {
+    size_t more = *room < 65536 ? 65536 : *room * 2;
+    uint8_t *bytes = more < *room ? NULL : (uint8_t *)realloc(save->bytes, more);
+    if (bytes == NULL) {
+        errno = ENOMEM;
+        return false;
+    }
+    save->bytes = bytes;
+    *room = more;
+    return true;
+}
+
+static int read_save(struct save *save) {
+    size_t room = 0;
+    FILE *file = fopen(save->name, "rb");
+    if (file == NULL) {
+        return failed("cannot read", save->name);
+    }
+    while (!feof(file) && !ferror(file)) {
+        if (save->len == room && !grow(save, &room)) {
+            break;
+        }
+        save->len += fread(save->bytes + save->len, 1, room - save->len, file);
+    }
+    int status = feof(file) ? WELL : failed("cannot read", save->name);
+    fclose(file);
+    return status;
+}
+
+/* ---- printing tokens */
+
+static void print_text(const uint8_t *text, size_t len) {
+    putchar('"');
+    for (size_t i = 0; i < len; i++) {
+        if (text[i] < ' ' || text[i] > '~' || text[i] == '"' || text[i] == '\\') {
+            printf("\\x%02x", (unsigned)text[i]);
+        } else {
+            putchar(text[i]);
+        }
+    }
+    putchar('"');
+}
+
+/* The text of a string token: the call says which part of the save holds it, and nothing is copied. */
+static int print_string(const struct save *save, size_t start, size_t len) {
+    uint64_t part[STIVLAHEIM_WORDS];
+    uint32_t code = stivlaheim_text(save->bytes, save->len, start, len, part, STIVLAHEIM_WORDS);
+    if (code != STIVLAHEIM_ANSWERED) {
+        return refused(save, code, part[1]);
+    }
+    print_text(save->bytes + part[1], (size_t)part[2]);
+    return WELL;
+}
+
+/* Signed numbers come in two's complement. */
+static void print_signed(uint64_t bits) {
+    if (bits >> 63) {
+        printf("-%" PRIu64, ~bits + 1);
+    } else {
+        printf("%" PRIu64, bits);
+    }
+}
+
+static void print_bytes(uint64_t number, int count) {
+    for (int i = 0; i < count; i++) {
+        printf("%02x", (unsigned)(number >> 8 * i & 255));
+    }
+}
+
+static void print_colour(const uint64_t *words) {
+    printf("%" PRIu64 " %" PRIu64 " %" PRIu64, words[0], words[1], words[2]);
+    if (words[3] == 1) {
+        printf(" %" PRIu64, words[4]);
+    }
+}
+
+/* A token at a position: its kind, and the words of what it holds. */
+static int print_token(const struct save *save, uint64_t position, uint64_t kind, const uint64_t *words) {
+    int status = WELL;
+    printf("%" PRIu64 " %s", position, KINDS[kind]);
+    if (kind > STIVLAHEIM_KIND_EQUAL) {
+        putchar(' ');
+    }
+    switch (kind) {
+    case STIVLAHEIM_KIND_OPEN:
+    case STIVLAHEIM_KIND_CLOSE:
+    case STIVLAHEIM_KIND_EQUAL: break;
+    case STIVLAHEIM_KIND_I32:
+    case STIVLAHEIM_KIND_I64: print_signed(words[0]); break;
+    case STIVLAHEIM_KIND_BOOL: fputs(words[0] == 1 ? "true" : "false", stdout); break;
+    case STIVLAHEIM_KIND_QUOTED:
+    case STIVLAHEIM_KIND_UNQUOTED: status = print_string(save, (size_t)words[0], (size_t)words[1]); break;
+    case STIVLAHEIM_KIND_F32: print_bytes(words[0], 4); break;
+    case STIVLAHEIM_KIND_F64: print_bytes(words[0], 8); break;
+    case STIVLAHEIM_KIND_RGB: print_colour(words); break;
+    default: printf("%" PRIu64, words[0]); break;
+    }
+    putchar('\n');
+    return status;
+}
+
+/* Word 0 of each answer is the cursor for the next call. */
+static int print_tokens(const struct save *save) {
+    uint64_t answer[STIVLAHEIM_WORDS] = {0};
+    uint64_t at = 0;
+    int status = WELL;
+    while (status == WELL) {
+        uint32_t code = stivlaheim_next_token(save->bytes, save->len, (size_t)at, answer, STIVLAHEIM_WORDS);
+        if (code == STIVLAHEIM_NONE) {
+            break;
+        }
+        status = code == STIVLAHEIM_ANSWERED ? print_token(save, at, answer[1], answer + 2) : refused(save, code, answer[1]);
+        at = answer[0];
+    }
+    if (fflush(stdout) != 0 || ferror(stdout)) {
+        return failed("cannot write", "the tokens");
+    }
+    return status;
+}
+
+/* ---- the normal form */
+
+static int write_file(const char *name, const uint8_t *bytes, size_t len) {
+    FILE *file = fopen(name, "wb");
+    if (file == NULL) {
+        return failed("cannot write", name);
+    }
+    size_t written = len == 0 ? 0 : fwrite(bytes, 1, len, file);
+    if (fclose(file) != 0 || written != len) {
+        return failed("cannot write", name);
+    }
+    return WELL;
+}
+
+/* The first call has no room, and says how many bytes are needed: never more than five times the save. */
+static int write_normal(const struct save *save, const char *name) {
+    uint64_t answer[STIVLAHEIM_WORDS];
+    uint32_t code = stivlaheim_normalise(save->bytes, save->len, NULL, 0, answer, STIVLAHEIM_WORDS);
+    uint8_t *out = NULL;
+    if (code == STIVLAHEIM_NO_ROOM) {
+        size_t need = (size_t)answer[1];
+        out = (uint8_t *)malloc(need);
+        if (out == NULL) {
+            return failed("cannot write", name);
+        }
+        code = stivlaheim_normalise(save->bytes, save->len, out, need, answer, STIVLAHEIM_WORDS);
+    }
+    int status = code == STIVLAHEIM_ANSWERED ? write_file(name, out, (size_t)answer[0]) : refused(save, code, answer[1]);
+    free(out);
+    return status;
+}
+
+int main(int count, char **arguments) {
+    if (count < 2 || count > 3) {
+        fputs("tokens SAVE [NORMAL-FORM]\n", stderr);
+        return FAILED;
+    }
+    struct save save = {arguments[1], NULL, 0};
+    int status = read_save(&save);
+    if (status == WELL) {
+        status = print_tokens(&save);
+    }
+    if (status == WELL && count == 3) {
+        status = write_normal(&save, arguments[2]);
+    }
+    free(save.bytes);
+    return status;
+}
