@@ -28,7 +28,7 @@ impl LexerError {
         self.kind
     }
 
-    // As `kind`.
+    // Why it is refused, by the name that the original has for giving the error up.
     pub fn into_kind(self) -> LexError
         ensures { λ r. ⌜ r ≡ self .kind ⌝ }
     {

@@ -51,7 +51,7 @@ pub enum ReadU16 {
 }
 
 impl ReadU16 {
-    // As of a ReadU8.
+    // Why the read was refused; InvalidRgb where it was not.
     pub fn refusal(self) -> LexError
         ensures { λ r. ⌜ faultOf r ≡ why (u16Answer self) ⌝ }
     {
@@ -68,7 +68,7 @@ pub enum ReadU32 {
 }
 
 impl ReadU32 {
-    // As of a ReadU8.
+    // Why the read was refused; InvalidRgb where it was not.
     pub fn refusal(self) -> LexError
         ensures { λ r. ⌜ faultOf r ≡ why (u32Answer self) ⌝ }
     {
@@ -85,7 +85,7 @@ pub enum ReadU64 {
 }
 
 impl ReadU64 {
-    // As of a ReadU8.
+    // Why the read was refused; InvalidRgb where it was not.
     pub fn refusal(self) -> LexError
         ensures { λ r. ⌜ faultOf r ≡ why (u64Answer self) ⌝ }
     {
@@ -102,7 +102,7 @@ pub enum ReadI32 {
 }
 
 impl ReadI32 {
-    // As of a ReadU8.
+    // Why the read was refused; InvalidRgb where it was not.
     pub fn refusal(self) -> LexError
         ensures { λ r. ⌜ faultOf r ≡ why (i32Answer self) ⌝ }
     {
@@ -119,7 +119,7 @@ pub enum ReadI64 {
 }
 
 impl ReadI64 {
-    // As of a ReadU8.
+    // Why the read was refused; InvalidRgb where it was not.
     pub fn refusal(self) -> LexError
         ensures { λ r. ⌜ faultOf r ≡ why (i64Answer self) ⌝ }
     {
@@ -136,7 +136,7 @@ pub enum ReadBool {
 }
 
 impl ReadBool {
-    // As of a ReadU8.
+    // Why the read was refused; InvalidRgb where it was not.
     pub fn refusal(self) -> LexError
         ensures { λ r. ⌜ faultOf r ≡ why (boolAnswer self) ⌝ }
     {
@@ -153,7 +153,7 @@ pub enum ReadId {
 }
 
 impl ReadId {
-    // As of a ReadU8.
+    // Why the read was refused; InvalidRgb where it was not.
     pub fn refusal(self) -> LexError
         ensures { λ r. ⌜ faultOf r ≡ why (idAnswer self) ⌝ }
     {
@@ -170,7 +170,7 @@ pub enum ReadString {
 }
 
 impl ReadString {
-    // As of a ReadU8.
+    // Why the read was refused; InvalidRgb where it was not.
     pub fn refusal(self) -> LexError
         ensures { λ r. ⌜ faultOf r ≡ why (textAnswer self) ⌝ }
     {
@@ -187,7 +187,7 @@ pub enum ReadRgb {
 }
 
 impl ReadRgb {
-    // As of a ReadU8.
+    // Why the read was refused; InvalidRgb where it was not.
     pub fn refusal(self) -> LexError
         ensures { λ r. ⌜ faultOf r ≡ why (rgbAnswer self) ⌝ }
     {
