@@ -36,6 +36,7 @@ module _ (supply schedule : List ℕ) where
 
   -- ---- numbers and texts
 
+  -- what is to come after n unread bytes
   past-ahead : (n : ℕ) (t : ParserSource) (b : List ℕ) → Sound supply schedule t b → n ≤ unread t → drop n (ahead supply t b) ≡ ahead supply (past n t) b
   past-ahead n t b g h =
       let d : t .position + n - t .position ≡ n = omega arith in
@@ -61,7 +62,7 @@ module _ (supply schedule : List ℕ) where
   unfolding F.num _giving_ R.mapped
   num-is n l h = rw (next-is n l h)
 
-  -- `read_lexeme_id`, of two bytes, and a colour's numbers
+  -- a number of n bytes: `read_lexeme_id`, where n is 2, and the numbers of a colour
   pub number-finds : (n : ℕ) {s u : ParserSource} {buffer b : List ℕ} {i : ℕ} → number supply schedule n s buffer ≡ gives i u b → Finds (F.num n) i n s buffer u b
   unfolding number taken _then_ andThen
   number-finds n {s} {u} {buffer} {b} {i} e = by (ensured supply schedule n s buffer) refl e
@@ -106,12 +107,12 @@ module _ (supply schedule : List ℕ) where
           })
       by (refuses r v m) q h = stopped (eqb (refusalNumber r) 1 && leb (v .end) (v .start)) r v m h
 
-  -- a length, and so many bytes
+  -- a length n, and so many bytes
   string-is : (n : ℕ) (l : List ℕ) → n ≡ le (take 2 l) → 2 + n ≤ length l → F.string l ≡ found (take n (drop 2 l)) (2 + n)
   unfolding F.string _followed-by_ R.andThen R.further
   string-is n l e h = rw (num-is 2 l (omega arith), ← e, next-is n (drop 2 l) (omega (arith, length-drop 2 l)))
 
-  -- its text, where the length stands before it
+  -- the bytes of a text that its length stands before
   text-part : (n : ℕ) (t : ParserSource) (b : List ℕ) → Sound supply schedule t b → 2 + n ≤ unread t → take n (drop (t .start + 2) (heldIn supply t b)) ≡ take n (drop 2 (ahead supply t b))
   text-part n t b g h =
       let k = passing supply schedule 2 {s = t} {buffer = b} g (omega arith) in
@@ -152,13 +153,14 @@ module _ (supply schedule : List ℕ) where
   abbrev Agrees : {A B : Type 0} → (A → B) → Call A → Reader B → Type 0
   Agrees {A} {B} h f r = (s : ParserSource) (buffer : List ℕ) (a : A) (t : ParserSource) (b : List ℕ) → f s buffer ≡ gives a t b → Finds r (h a) (t .position - s .position) s buffer t b
 
-  -- by the positions
+  -- the count, by the positions
   counted : {A : Type 0} (r : Reader A) (a : A) (n : ℕ) {s t : ParserSource} {buffer b : List ℕ} → Finds r a n s buffer t b → Finds r a (t .position - s .position) s buffer t b
   counted r a n {s} {t} {buffer} {b} k = let d : t .position - s .position ≡ n = omega (arith, k .on) in rw d k
 
   number-agrees : (n : ℕ) → Agrees (λ i. i) (number supply schedule n) (F.num n)
   number-agrees n s buffer i t b e = counted (F.num n) i n (number-finds n e)
 
+  -- nothing is read
   nothing-agrees : {A : Type 0} (a : A) → Agrees (λ x. x) (gives a) (give a)
   unfolding give
   nothing-agrees a s buffer c t b e =
@@ -179,6 +181,7 @@ module _ (supply schedule : List ℕ) where
   unfolding _giving_ R.mapped
   giving-agrees h k x s buffer a t b e = let w = x s buffer a t b e in record { is = rw (w .is); rest = w .rest; on = w .on }
 
+  -- a call and then another, as one reader followed by another
   then-agrees : {A B C D : Type 0} (h : A → B) (k : C → D) {f : Call A} {g : A → Call C} {r : Reader B} (q : B → Reader D)
       → Agrees h f r → ((a : A) → Agrees k (g a) (q (h a))) → Agrees k (f then g) (r followed-by q)
   unfolding _then_ andThen _followed-by_ R.andThen R.further
@@ -195,6 +198,7 @@ module _ (supply schedule : List ℕ) where
           })
       by (refuses e t b) p o = never (cc)
 
+  -- an id that is the one expected
   expected-agrees : (i : ℕ) → Agrees (λ _. i) (expected supply schedule i) (F.num 2)
   unfolding expected _then_ andThen
   expected-agrees i s buffer a t b e = by (id supply schedule s buffer) refl e
