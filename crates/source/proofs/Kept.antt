@@ -66,7 +66,7 @@ module _ (supply schedule : List ℕ) where
       }
 
   -- n unread bytes are passed
-  passing : (n : ℕ) {s : ParserSource} {buffer : List ℕ} → Sound s buffer → n ≤ unread s → Kept s buffer (past n s) buffer
+  pub passing : (n : ℕ) {s : ParserSource} {buffer : List ℕ} → Sound s buffer → n ≤ unread s → Kept s buffer (past n s) buffer
   passing n {s} {buffer} g h =
       let H = heldIn supply s buffer in
       let m = s .end - (s .start + n) in

@@ -10,3 +10,4 @@ pub mod Steady
 pub mod Specimens
 pub mod Unique
 pub mod HandsOver
+pub mod ReadsTheFormat
