@@ -137,10 +137,6 @@ pub string-short : (s : List ℕ) (p : ℕ) {n b : ℕ} → at (num 2) s p ≡ f
 unfolding string andThen
 string-short s p {n} {b} e h = rw (at-then (num 2) next s p, e, at-short n s b h)
 
-pub string-cut : (s : List ℕ) (p : ℕ) {why : Fault} → at (num 2) s p ≡ refused why → at string s p ≡ refused why
-unfolding string andThen
-string-cut s p e = rw (at-then (num 2) next s p, e)
-
 pub string-then : (s : List ℕ) (p : ℕ) → at string s p ≡ andThen (at (num 2) s p) (λ n b. at (next n) s b)
 unfolding string
 string-then s p = at-then (num 2) next s p

@@ -23,7 +23,7 @@ minus-neg : (n : ℕ) → pos 0 -ℤ negℤ (pos n) ≡ pos n
 minus-neg zero = refl
 minus-neg (suc n) = ap pos (zero-add (suc n))
 
-mag-neg : (n : ℕ) → mag (negℤ (pos n)) ≤ n
+pub mag-neg : (n : ℕ) → mag (negℤ (pos n)) ≤ n
 mag-neg zero = omega arith
 mag-neg (suc n) = omega arith
 

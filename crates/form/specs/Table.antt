@@ -1,5 +1,5 @@
 -- The table of ids. Each row of the scope paper's table is a row here, in its order; the paper's row stands above it.
-use Prim.Native.Nat.{ℕ, _-_}
+use Prim.Native.Nat.{ℕ, zero, suc, _+_, _-_}
 use mathlib.Core.Bool.{Bool, true, false, _&&_, _||_}
 use mathlib.Core.Option.{Option, none, some}
 use mathlib.Core.List.{List, [], _∷_, _++_}
@@ -136,3 +136,19 @@ isSome (some p) = true
 -- the table has the id
 unfoldable pub reserved : ℕ → Bool
 reserved i = isSome (find entries i)
+
+-- ---- the reserved ids
+
+-- n ids from i on
+abbrev pub run : ℕ → ℕ → List ℕ
+run zero i = []
+run (suc n) i = i ∷ run n (i + 1)
+
+abbrev pub ids : List Entry → List ℕ
+ids [] = []
+ids (ks is p ∷ es) = ks ++ ids es
+ids (lo to hi is p ∷ es) = run (hi - lo + 1) lo ++ ids es
+
+-- all of them, in the table's order
+unfoldable pub reservedIds : List ℕ
+reservedIds = ids entries

@@ -5,3 +5,4 @@ pub mod Parts
 pub mod Cutting
 pub mod Texts
 pub mod Unique
+pub mod Spells

@@ -1,14 +1,15 @@
 // Compact numbers.
 ghost use mathlib.Core.Path.{_≡_};
-ghost use Prim.Native.Nat.{_-_, _≤_};
+ghost use Prim.Native.Nat.{_-_, _^_, _≤_, _<_};
 ghost use lib.ListN.{length, take, drop};
 ghost use Rattle.form.specs.Numbers.{le, negated};
 ghost use Rattle.form.specs.Readers.{at as readAt};
 ghost use Rattle.form.specs.Reading.{num};
 ghost use Rattle.payload.specs.Answers.{u64Answer};
 ghost use Rattle.payload.specs.Compact.{atMost7};
-use crate::answers::LexError;
+use crate::answers::ReadString;
 use crate::answers::ReadU64;
+use crate::bits;
 use crate::numbers;
 
 // A width over seven counts as seven.
@@ -42,20 +43,19 @@ pub(crate) fn read_few(bytes: &[u8], at: usize, width: usize) -> ReadU64
     if bytes.len() < at {
         return numbers::read_width(bytes, at, width);
     }
-    if !split::has(bytes, at, width) {
-        return ReadU64::Refused(LexError::Eof);
-    }
-    let next = at + width;
+    let part = crate::read_bytes(bytes, at, width);
+    let ReadString::Got(_, next) = part else {
+        return ReadU64::Refused(part.refusal());
+    };
     let x = last(bytes, next, width);
     ReadU64::Got(x, next)
 }
 
+// The bits of the negated number. Below 2^56 the negation is in the range of an i64.
 pub(crate) fn negate(x: u64) -> u64
+    requires { ⌜ x < 2 ^ 56 ⌝ }
     ensures { λ r. ⌜ r ≡ negated x ⌝ }
 {
-    if x == 0 {
-        0
-    } else {
-        18446744073709551615 - x + 1
-    }
+    let negative = -(x as i64);
+    bits::of_i64(negative)
 }

@@ -11,7 +11,7 @@ ghost use lib.Dec.{eqb};
 ghost use mir.Syntax.{w32, w64};
 ghost use mir.Val.{toZ};
 ghost use Rattle.form.specs.Readers.{at as readAt, mapped, placed};
-ghost use Rattle.form.specs.Reading.{num, string, rgb};
+ghost use Rattle.form.specs.Reading.{next, num, string, rgb};
 ghost use Rattle.payload.specs.Answers.{u8Answer, u16Answer, u32Answer, u64Answer, i32Answer, i64Answer, boolAnswer, idAnswer, textAnswer, rgbAnswer, textOf};
 ghost use Rattle.payload.specs.Compact.{compact};
 pub use crate::answers::Alpha;
@@ -42,6 +42,23 @@ pub fn read_id(bytes: &[u8], at: usize) -> ReadId
     ReadId::Got(LexemeId::new(x as u16), next)
 }
 
+// The place of the next bytes, so many. Every read asks for its bytes here, and hands on the refusal that it gets.
+pub fn read_bytes(bytes: &[u8], at: usize, count: usize) -> ReadString
+    ensures { λ r. ⌜ textAnswer r ≡ placed textOf (readAt (next count) (now (bytes .entry)) at) ⌝ }
+{
+    if !split::has(bytes, at, count) {
+        return ReadString::Refused(LexError::Eof);
+    }
+    let end = at + count;
+    ReadString::Got(
+        Text {
+            start: at,
+            len: count,
+        },
+        end,
+    )
+}
+
 // A string: two bytes of length, and as many bytes of text.
 pub fn read_string(bytes: &[u8], at: usize) -> ReadString
     ensures { λ r. ⌜ textAnswer r ≡ placed textOf (readAt string (now (bytes .entry)) at) ⌝ }
@@ -50,12 +67,11 @@ pub fn read_string(bytes: &[u8], at: usize) -> ReadString
     let ReadU64::Got(x, start) = r else {
         return ReadString::Refused(r.refusal());
     };
-    let len = x as usize;
-    if !split::has(bytes, start, len) {
-        return ReadString::Refused(LexError::Eof);
-    }
-    let next = start + len;
-    ReadString::Got(Text { start, len }, next)
+    let part = read_bytes(bytes, start, x as usize);
+    let ReadString::Got(text, next) = part else {
+        return ReadString::Refused(part.refusal());
+    };
+    ReadString::Got(text, next)
 }
 
 // A bool: one byte, true where it is not zero.

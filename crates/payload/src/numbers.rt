@@ -8,7 +8,7 @@ ghost use Rattle.form.specs.Numbers.{le};
 ghost use Rattle.form.specs.Readers.{at as readAt};
 ghost use Rattle.form.specs.Reading.{num};
 ghost use Rattle.payload.specs.Answers.{u32Answer, u64Answer};
-use crate::answers::LexError;
+use crate::answers::ReadString;
 use crate::answers::ReadU32;
 use crate::answers::ReadU64;
 
@@ -31,9 +31,10 @@ pub(crate) fn read_width(bytes: &[u8], at: usize, width: usize) -> ReadU64
     requires { ⌜ width ≤ 8 ⌝ }
     ensures { λ r. ⌜ u64Answer r ≡ readAt (num width) (now (bytes .entry)) at ⌝ }
 {
-    if !split::has(bytes, at, width) {
-        return ReadU64::Refused(LexError::Eof);
-    }
+    let part = crate::read_bytes(bytes, at, width);
+    let ReadString::Got(_, _) = part else {
+        return ReadU64::Refused(part.refusal());
+    };
     let x = spelled(bytes, at, width);
     let next = at + width;
     ReadU64::Got(x, next)

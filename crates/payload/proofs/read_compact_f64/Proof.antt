@@ -1,10 +1,11 @@
 -- `payload::read_compact_f64` meets its contract. Assumes nothing.
+use Prim.Native.Nat.{_^_, _≤_}
 use mathlib.Core.Path.{refl, sym}
 use borrow.Author.Needs.{needs}
 use Rattle.form.specs.Readers.{mapped}
 use Rattle.payload.specs.Answers.{u64Answer}
 use Rattle.payload.proofs.Laws.{gotOf, elseOf}
-use Rattle.payload.proofs.Cutting.{at-most-7}
+use Rattle.payload.proofs.Cutting.{at-most-7, few-below}
 use Rattle.payload.proofs.read_compact_f64.Statement.{statement}
 use Rattle.payload.proofs.read_compact_f64.Tie as tie
 
@@ -14,6 +15,10 @@ read-few-requires c κs = rw (c .capped .ensures) (at-most-7 (c .before .before 
 returns : tie.Need-returns
 unfolding mapped
 returns c = rw (sym (c .before .before .before .before .capped .ensures), elseOf u64Answer (c .before .before .before .read-few .ensures) (c .before .enum-told .given .1) (c .refusal .ensures) refl)
+
+negate-requires : tie.Need-negate-requires
+negate-requires c κs =
+    few-below _ _ _ (c .before .before .before .before .before .before .shared-slice-known .given) (rw (c .before .before .before .before .before .capped .ensures) (at-most-7 (c .before .before .before .before .before .before .before .args .width))) (gotOf u64Answer (c .before .before .before .before .read-few .ensures) (c .before .before .r .given .1))
 
 returns-2 : tie.Need-returns-2
 unfolding mapped
@@ -33,6 +38,6 @@ read-compact-f64-spec =
     (λ c. search needs)
     (λ c κs. search needs)
     returns
-    (λ c κs. search needs)
+    negate-requires
     returns-2
     returns-3)

@@ -1,41 +1,24 @@
 -- `payload::read_string` meets its contract. Assumes nothing.
-use Prim.Native.Nat.{ℕ}
-use mathlib.Core.Path.{refl, sym}
-use native.Mathlib.Omega.{arith}
-use lib.ListN.{length, drop, length-drop}
-use Rattle.form.specs.Readers.{placed}
-use Rattle.form.proofs.Places.{string-there, string-short, string-cut}
-use Rattle.split.proofs.Laws.{there, short}
-use Rattle.payload.specs.declared.answers.Text.{Text}
+use mathlib.Core.Path.{refl, ap, _∙_}
+use Rattle.form.specs.Readers.{andThen, placed}
+use Rattle.form.proofs.Places.{string-then}
 use borrow.Author.Needs.{needs}
-use Rattle.payload.specs.Answers.{u64Answer}
+use Rattle.payload.specs.Answers.{u64Answer, textAnswer}
 use Rattle.payload.proofs.Laws.{gotOf, elseOf}
 use Rattle.payload.proofs.read_string.Statement.{statement}
 use Rattle.payload.proofs.read_string.Tie as tie
 
-abbrev textAt : ℕ → ℕ → Text
-textAt start len = record { start = start; len = len }
-
 returns : tie.Need-returns
-unfolding placed
-returns c = rw (string-cut _ _ (elseOf u64Answer (c .before .before .before .read-width .ensures) (c .before .enum-told .given .1) (c .refusal .ensures) refl))
+unfolding placed andThen
+returns c = rw (string-then, elseOf u64Answer (c .before .before .before .read-width .ensures) (c .before .enum-told .given .1) (c .refusal .ensures) refl)
 
 returns-2 : tie.Need-returns-2
-unfolding placed
-returns-2 c =
-    let g = gotOf u64Answer (c .before .before .before .before .before .read-width .ensures) (c .before .before .before .r .given .1) in
-    rw (string-short _ _ g (short (c .before .has .ensures) (c .if1 .taken)))
-
-add-next : tie.Need-add-next
-add-next c =
-    let s = c .before .before .before .before .before .before .before .args .bytes .now in
-    let start = c .before .before .before .r .given .0 .1 .0 in
-    omega (arith, length-drop start s, there {m = length (drop start s)} (c .before .has .ensures) (c .if1 .left))
+unfolding andThen
+returns-2 c = rw (string-then, gotOf u64Answer (c .before .before .before .before .before .before .before .read-width .ensures) (c .before .before .before .before .before .r .given .1), elseOf textAnswer (c .before .before .before .read-bytes .ensures) (c .before .enum-told2 .given .1) (c .refusal2 .ensures) refl)
 
 returns-3 : tie.Need-returns-3
-returns-3 c =
-    let g = gotOf u64Answer (c .before .before .before .before .before .read-width .ensures) (c .before .before .before .r .given .1) in
-    sym (string-there textAt _ _ g (there (c .before .has .ensures) (c .if1 .left)))
+unfolding andThen
+returns-3 c = rw (string-then, gotOf u64Answer (c .before .before .before .before .before .before .before .read-width .ensures) (c .before .before .before .before .before .r .given .1), gotOf textAnswer (c .before .before .before .read-bytes .ensures) (c .before .part .given .1))
 
 pub read-string-spec : {M : Type 1} → statement M
 read-string-spec =
@@ -47,6 +30,8 @@ read-string-spec =
     (λ c κs. search needs)
     returns
     (λ c κs. search needs)
+    (λ c. search needs)
+    (λ c. search needs)
+    (λ c κs. search needs)
     returns-2
-    add-next
     returns-3)
