@@ -23,13 +23,13 @@ impl LexerError {
     pub fn kind(self) -> LexError
         ensures { λ r. ⌜ r ≡ self .kind ⌝ }
     {
-        self.kind
+        self.kind // the caller has the error still
     }
 
     pub fn into_kind(self) -> LexError
         ensures { λ r. ⌜ r ≡ self .kind ⌝ }
     {
-        self.kind
+        self.kind // and the error is done with
     }
 }
 

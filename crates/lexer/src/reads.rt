@@ -131,7 +131,7 @@ impl Lexer {
     pub fn read_lookup_u32(self, bytes: &[u8]) -> LexU32
         ensures { λ r. ⌜ u32Call self r ≡ reads (readAt (num 4)) (now (bytes .entry)) (cursorOf self) ⌝ }
     {
-        self.read_u32(bytes)
+        self.read_u32(bytes) // an index
     }
 
     pub fn read_u32(self, bytes: &[u8]) -> LexU32
@@ -182,7 +182,7 @@ impl Lexer {
     pub fn read_f32(self, bytes: &[u8]) -> LexU32
         ensures { λ r. ⌜ u32Call self r ≡ reads (readAt (num 4)) (now (bytes .entry)) (cursorOf self) ⌝ }
     {
-        self.read_u32(bytes)
+        self.read_u32(bytes) // raw bytes
     }
 
     pub fn read_f64(self, bytes: &[u8]) -> LexU64
