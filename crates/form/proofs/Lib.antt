@@ -19,5 +19,6 @@ pub mod Outputs
 pub mod Runs
 pub mod Signs
 pub mod Specimens
+pub mod Sentences
 pub mod ListingExample
 pub mod Unique
