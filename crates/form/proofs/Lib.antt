@@ -20,5 +20,6 @@ pub mod Outputs
 pub mod Runs
 pub mod Signs
 pub mod Specimens
+pub mod Sentences
 pub mod ListingExample
 pub mod Unique

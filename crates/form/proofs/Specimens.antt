@@ -50,7 +50,7 @@ infix 10 _⇒_
 unfoldable pub _⇒_ : Ask → Reply → Specimen
 a ⇒ r = record { ask = a; reply = r }
 
-abbrev cursor : ℕ → Cursor
+abbrev pub cursor : ℕ → Cursor
 cursor p = record { at = p }
 
 -- a value, with the cursor after it

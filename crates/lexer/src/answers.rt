@@ -25,14 +25,14 @@ impl LexerError {
     pub fn kind(self) -> LexError
         ensures { λ r. ⌜ r ≡ self .kind ⌝ }
     {
-        self.kind
+        self.kind // the caller has the error still
     }
 
     // Why it is refused, by the name that the original has for giving the error up.
     pub fn into_kind(self) -> LexError
         ensures { λ r. ⌜ r ≡ self .kind ⌝ }
     {
-        self.kind
+        self.kind // and the error is done with
     }
 }
 

@@ -138,7 +138,7 @@ impl Lexer {
     pub fn read_lookup_u32(self, bytes: &[u8]) -> LexU32
         ensures { λ r. ⌜ u32Call self r ≡ reads (readAt (num 4)) (now (bytes .entry)) (cursorOf self) ⌝ }
     {
-        self.read_u32(bytes)
+        self.read_u32(bytes) // an index
     }
 
     // An unsigned number of four bytes.
@@ -193,7 +193,7 @@ impl Lexer {
     pub fn read_f32(self, bytes: &[u8]) -> LexU32
         ensures { λ r. ⌜ u32Call self r ≡ reads (readAt (num 4)) (now (bytes .entry)) (cursorOf self) ⌝ }
     {
-        self.read_u32(bytes)
+        self.read_u32(bytes) // raw bytes
     }
 
     // The number that the eight bytes of a float spell.

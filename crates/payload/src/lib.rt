@@ -125,7 +125,7 @@ pub fn read_i64(bytes: &[u8], at: usize) -> ReadI64
 pub fn read_f32(bytes: &[u8], at: usize) -> ReadU32
     ensures { λ r. ⌜ u32Answer r ≡ readAt (num 4) (now (bytes .entry)) at ⌝ }
 {
-    read_u32(bytes, at)
+    read_u32(bytes, at) // raw bytes
 }
 
 // The number that the eight bytes of a float spell.
@@ -170,7 +170,7 @@ pub fn read_lookup_u24(bytes: &[u8], at: usize) -> ReadU32
 pub fn read_lookup_u32(bytes: &[u8], at: usize) -> ReadU32
     ensures { λ r. ⌜ u32Answer r ≡ readAt (num 4) (now (bytes .entry)) at ⌝ }
 {
-    read_u32(bytes, at)
+    read_u32(bytes, at) // an index
 }
 
 // The number that the eight bytes of a compact float spell.

@@ -1,0 +1,65 @@
+-- What the scope paper says in sentences that no marked specimen tries: a theorem of examples for each part of the definition. Assumes nothing.
+use Prim.Native.Nat.{ℕ}
+use mathlib.Core.Path.{_≡_, refl}
+use mathlib.Core.Bool.{true}
+use mathlib.Core.Option.{none, some}
+use mathlib.Core.List.{List, [], _∷_}
+use lib.ListN.{replicate}
+use Rattle.form.specs.Numbers.{le, leBytes}
+use Rattle.form.specs.Values.{Value, Open, Lookup, Truth, kind}
+use Rattle.form.specs.Table.{table, entries, find, orPlain, after}
+use Rattle.form.specs.Ids.{sample, alike, findId, idOf, OPEN, CLOSE, CHANNEL}
+use Rattle.form.specs.Refusals.{NotEncodable, BadPlace, refusalAt, refusalNumber, refusalValues}
+use Rattle.form.specs.Readers.{further, andThen, mapped, _followed-by_, _giving_, at}
+use Rattle.form.specs.Reading.{next, num, string, channel, rgb, payload, token}
+use Rattle.form.specs.Skipping.{stepped, passing, orStop, closed, turned, skipF, skipping, skipContainer}
+use Rattle.form.specs.Calls.{atStart, gives, refuses, within, ended, reads, optional, nexts, ifFound, peeks, landed, skips}
+use Rattle.form.specs.Spelling.{tag, body, spell, writable, wide}
+use Rattle.form.specs.Saves.{step, walkF, walk}
+use Rattle.form.specs.Writing.{unwritten, leaves, fitted, write, firstRefusal, unless, normalise}
+use Rattle.form.specs.Fast.{Step, fast, slow, Stepped, front, over, stepNumber, stepText, stepBy, fastStep}
+use Rattle.form.specs.Keys.{isOpen, isClose, isEqual, deeper, equalNext, isKey, count, counts}
+use Rattle.form.specs.Ascii.{ascii, decimalF, decimal, spaced, line}
+use Rattle.form.specs.Listing.{name, shown, tokenLine, countWords, endLine, refusalWord, errorLine, textOf, listing}
+use Rattle.form.proofs.Specimens.{cursor, eof}
+
+-- a skip ends with the container that it began in; refused, it stays where its failing read began: after an id whose payload fails, and at an
+-- id cut short
+pub skips-hold : (skips skipContainer (0x03 ∷ 0x00 ∷ 0x04 ∷ 0x00 ∷ 0x04 ∷ 0x00 ∷ []) atStart ≡ gives tt (cursor 6))
+    × (skips skipContainer (0x0f ∷ 0x00 ∷ 0x02 ∷ 0x00 ∷ 0x61 ∷ []) atStart ≡ eof 2)
+    × (skips skipContainer (0x01 ∷ 0x00 ∷ 0x04 ∷ []) atStart ≡ eof 2)
+unfolding le kind table entries find orPlain after sample alike findId idOf OPEN CLOSE CHANNEL refusalAt further andThen mapped _followed-by_ _giving_ next
+    num string channel rgb payload at stepped passing orStop closed turned skipF skipping skipContainer within landed skips
+skips-hold = (refl, refl, refl)
+
+-- a peek moves nothing, and answers none where the read is refused; a cursor past the input is refused, by a `next_..` too
+pub calls-hold : (peeks (at token) (0x03 ∷ 0x00 ∷ []) atStart ≡ gives (some Open) atStart)
+    × (peeks (at token) (0x03 ∷ []) atStart ≡ gives none atStart)
+    × (nexts (at token) [] (cursor 1) ≡ refuses (BadPlace 1) (cursor 1))
+unfolding le table entries find orPlain after refusalAt further andThen mapped _followed-by_ _giving_ next num payload token at within ended reads optional
+    nexts ifFound peeks
+calls-hold = (refl, refl, refl)
+
+-- a wide lookup is refused at its position; what is written changes only the bytes written, and a refusal none
+pub writing-holds : (normalise 99 (0x01 ∷ 0x00 ∷ 0x3f ∷ 0x0d ∷ 0x00 ∷ 0x00 ∷ 0x00 ∷ 0x01 ∷ []) ≡ unwritten (NotEncodable 2))
+    × (leaves (write 3 Open) (7 ∷ 8 ∷ 9 ∷ []) ≡ 0x03 ∷ 0x00 ∷ 9 ∷ [])
+    × (leaves (write 1 Open) (7 ∷ []) ≡ 7 ∷ [])
+unfolding le leBytes kind table entries find orPlain after sample alike findId idOf further andThen mapped _followed-by_ _giving_ next num payload token tag
+    body spell writable wide step walkF walk leaves fitted write firstRefusal unless normalise
+writing-holds = (refl, refl, refl)
+
+-- a lookup changes all the held bytes, a Bool one, which is the byte that stands there; under 16 bytes no step is fast, and nothing is changed
+pub fast-holds : (fastStep (0x40 ∷ 0x0d ∷ 0x07 ∷ replicate 13 0) (replicate 8 0xff) ≡ record { step = fast (kind (Lookup 7)) 3; held = 0x07 ∷ replicate 7 0 })
+    × (fastStep (0x0e ∷ 0x00 ∷ 0x02 ∷ replicate 13 0) (replicate 8 0xff) ≡ record { step = fast (kind (Truth true)) 3; held = 0x02 ∷ replicate 7 0xff })
+    × (fastStep (0x03 ∷ replicate 14 0) (replicate 8 0xff) ≡ record { step = slow; held = replicate 8 0xff })
+unfolding le leBytes kind table entries find orPlain after front over stepNumber stepText stepBy fastStep
+fast-holds = (refl, refl, refl)
+
+-- a key stands at depth 0, a Close there is a stray, and one elsewhere ends a container; a refusal's line is the last
+pub lists-hold : (listing (0x04 ∷ 0x00 ∷ 0x03 ∷ 0x00 ∷ 0x01 ∷ 0x28 ∷ 0x01 ∷ 0x00 ∷ 0x04 ∷ 0x00 ∷ 0x01 ∷ 0x28 ∷ 0x01 ∷ 0x00 ∷ 0x04 ∷ 0x00 ∷ [])
+    ≡ ascii "0 close\n2 open\n4 id 10241\n6 equal\n8 close\n10 id 10241\n12 equal\n14 close\nend 16 tokens 8 containers 1 keys 1 stray 2\n")
+    × (listing (0x04 ∷ 0x00 ∷ 0x03 ∷ []) ≡ ascii "0 close\nerror eof 2\n")
+unfolding le kind table entries find orPlain after refusalAt further andThen mapped _followed-by_ _giving_ next num payload token step walkF walk isOpen
+    isClose isEqual deeper equalNext isKey count counts decimalF decimal spaced line name shown tokenLine countWords endLine refusalNumber refusalValues
+    refusalWord errorLine textOf listing
+lists-hold = (refl, refl)
