@@ -7,7 +7,7 @@ ghost use Rattle.form.specs.Listing.{listing};
 use libc::STDERR_FILENO;
 use libc::STDIN_FILENO;
 use listing::Listed;
-use streams::Input;
+use stdio::Input;
 
 // The dump of a save at the front of out; its length.
 fn dump(bytes: &[u8], out: &mut [u8]) -> usize
@@ -28,23 +28,23 @@ fn show(bytes: &[u8], out: &mut [u8])
     requires { ⌜ (length (now bytes) ≤ 32768) × (442431 ≤ length (now out)) ⌝ }
 {
     let n = dump(bytes, out);
-    streams::print(&out[..n]);
+    stdio::print(&out[..n]);
 }
 
 fn main() {
     let mut bytes = [0u8; 32769];
     // Room for every dump: 27 bytes for each two of the save, and 63 for the last line.
     let mut out = [0u8; 442431];
-    match streams::read_all(STDIN_FILENO, &mut bytes) {
+    match stdio::read_all(STDIN_FILENO, &mut bytes) {
         Input::Got(n) => {
             if n <= 32768 {
                 show(&bytes[..n], &mut out);
             } else {
-                streams::print(b"too long\n");
+                stdio::print(b"too long\n");
             }
         }
         Input::Failed => {
-            streams::write_all(STDERR_FILENO, b"cannot read\n");
+            stdio::write_all(STDERR_FILENO, b"cannot read\n");
         }
     }
 }

@@ -7,7 +7,7 @@ ghost use Rattle.normal.specs.Lines.{shown};
 use libc::STDERR_FILENO;
 use libc::STDIN_FILENO;
 use normaliser::Normalised;
-use streams::Input;
+use stdio::Input;
 use text::put_error;
 
 // The normal form of a save at the front of out, or the line of its first refusal; its length.
@@ -32,23 +32,23 @@ fn show(bytes: &[u8], out: &mut [u8])
     requires { ⌜ (length (now bytes) ≤ 8192) × (40960 ≤ length (now out)) ⌝ }
 {
     let n = form(bytes, out);
-    streams::print(&out[..n]);
+    stdio::print(&out[..n]);
 }
 
 fn main() {
     let mut bytes = [0u8; 8193];
     // Room for every normal form: five bytes for each of the save.
     let mut out = [0u8; 40960];
-    match streams::read_all(STDIN_FILENO, &mut bytes) {
+    match stdio::read_all(STDIN_FILENO, &mut bytes) {
         Input::Got(n) => {
             if n <= 8192 {
                 show(&bytes[..n], &mut out);
             } else {
-                streams::print(b"too long\n");
+                stdio::print(b"too long\n");
             }
         }
         Input::Failed => {
-            streams::write_all(STDERR_FILENO, b"cannot read\n");
+            stdio::write_all(STDERR_FILENO, b"cannot read\n");
         }
     }
 }

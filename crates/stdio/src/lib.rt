@@ -1,12 +1,12 @@
-// A program's streams: all of an input read, all of an output written. A call that a signal interrupts is made again.
+// A program's input and output: all of an input read, all of an output written. A call that a signal interrupts is made again.
 ghost use Prim.Native.Nat.{_≤_};
 ghost use lib.ListN.{length};
-ghost use Rattle.streams.specs.Streams.{within};
+ghost use Rattle.stdio.specs.Within.{within};
 use libc::EINTR;
 use libc::STDERR_FILENO;
 use libc::STDOUT_FILENO;
 
-// How often a call is made again. It could be any number: more than the time that there is.
+// How often a call that is interrupted is made: no program lives to see it, but so the loop ends.
 const AGAIN: u64 = 18446744073709551615;
 
 // How many bytes came, at the front of the buffer.

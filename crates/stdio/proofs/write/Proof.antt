@@ -1,7 +1,7 @@
--- `streams::write` is safe and ends. Assumes nothing.
+-- `stdio::write` is safe and ends. Assumes nothing.
 use borrow.Author.Needs.{needs}
-use Rattle.streams.proofs.write.Statement.{statement}
-use Rattle.streams.proofs.write.Tie as tie
+use Rattle.stdio.proofs.write.Statement.{statement}
+use Rattle.stdio.proofs.write.Tie as tie
 
 abbrev Inv-loop : tie.InvT-loop
 Inv-loop fd bytes again₀ again = Unit {0}

@@ -1,9 +1,9 @@
--- `streams::read` is safe and ends. Assumes nothing.
+-- `stdio::read` is safe and ends. Assumes nothing.
 use borrow.Author.Needs.{needs}
 use mathlib.Core.Path.{_≡_}
 use lib.ListN.{length}
-use Rattle.streams.proofs.read.Statement.{statement}
-use Rattle.streams.proofs.read.Tie as tie
+use Rattle.stdio.proofs.read.Statement.{statement}
+use Rattle.stdio.proofs.read.Tie as tie
 
 abbrev Inv-loop : tie.InvT-loop
 Inv-loop fd buffer₀ again₀ buffer again = length buffer ≡ length buffer₀
