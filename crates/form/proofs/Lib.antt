@@ -16,6 +16,7 @@ pub mod SkipSteps
 pub mod FastAgrees
 pub mod Normal
 pub mod Normalising
+pub mod Rooms
 pub mod Outputs
 pub mod Runs
 pub mod Signs

@@ -25,7 +25,7 @@ unrefused (then p k v w) h n = go (wide v) n (unrefused w h)
     go true t k = absurd t
     go false t k = k t
 
-refusal-free : (w : Walk) → firstRefusal w ≡ none → T (whole w) × T (allNarrow (values w))
+pub refusal-free : (w : Walk) → firstRefusal w ≡ none → T (whole w) × T (allNarrow (values w))
 unfolding firstRefusal whole values allNarrow
 refusal-free done e = (tt, tt)
 refusal-free (cut r) e = never (cc)

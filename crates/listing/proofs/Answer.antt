@@ -10,8 +10,8 @@ use Rattle.form.specs.Refusals.{NoRoom, TooLong}
 use Rattle.form.specs.Saves.{LIMIT}
 use Rattle.form.specs.Writing.{written, unwritten, fitted}
 use Rattle.form.specs.Listing.{listing, list}
+use Rattle.form.proofs.Rooms.{listing-length, list-fits}
 use Rattle.text.specs.Put.{top}
-use Rattle.listing.proofs.Lengths.{listing-short}
 
 -- an output of no bytes keeps none
 pub none-left : (d : List ℕ) → length d ≡ 0 → d ≡ []
@@ -25,11 +25,10 @@ module _ (s : List ℕ) (room : ℕ) where
 
   module _ (b : Bytes s) (h : length s ≤ LIMIT) {n : ℕ} (e : n ≡ min (0 + length (listing s)) top) where
     pub measured : n ≡ length (listing s)
-    measured = omega (arith, listing-short s b h)
+    measured = omega (arith, listing-length 9 s b (omega arith))
 
     pub fits : n ≤ room → list room s ≡ written (listing s)
-    unfolding list fitted
-    fits l = rw (le-leb (length s) LIMIT h, le-leb (length (listing s)) room (omega (arith, measured)))
+    fits l = list-fits room s h (omega (arith, measured))
 
     pub lacks : room < n → list room s ≡ unwritten (NoRoom n)
     unfolding list fitted

@@ -1,16 +1,14 @@
--- The line that stands for a refusal.
+-- What the program writes of a save: its normal form, or the line of its first refusal.
 use Prim.Native.Nat.{ℕ}
-use mathlib.Core.List.{List, []}
-use Rattle.form.specs.Refusals as R
+use mathlib.Core.List.{List}
+use Rattle.form.specs.Writing.{Output, written, unwritten}
 use Rattle.form.specs.Listing.{errorLine}
-use Rattle.normaliser.specs.declared.Normalised.{Normalised}
-use Rattle.normaliser.specs.declared.Normalised.the-variants.{Written, Eof, InvalidRgb, NotEncodable, NoRoom, TooLong}
+use Rattle.normaliser.specs.Passes.{unbounded}
 
--- of the bytes themselves; none where the room or the length is why
-abbrev pub refusalLine : Normalised → List ℕ
-refusalLine (Written n) = []
-refusalLine (Eof p) = errorLine (R.Eof p)
-refusalLine (InvalidRgb p) = errorLine (R.InvalidRgb p)
-refusalLine (NotEncodable p) = errorLine (R.NotEncodable p)
-refusalLine (NoRoom n) = []
-refusalLine (TooLong n) = []
+-- the bytes of an output, or the line of its refusal
+abbrev pub orLine : Output → List ℕ
+orLine (written bs) = bs
+orLine (unwritten r) = errorLine r
+
+unfoldable pub shown : List ℕ → List ℕ
+shown s = orLine (unbounded s)

@@ -1,4 +1,5 @@
 -- `dump::main` is safe and ends. Assumes nothing.
+use native.Mathlib.Omega.{arith}
 use mathlib.Core.Path.{sym}
 use lib.Seq.{length-take-le}
 use borrow.Author.Needs.{needs}
@@ -7,6 +8,9 @@ use Rattle.dump.proofs.main.Tie as tie
 
 slice-aggregate-show : tie.Need-slice-aggregate-show
 slice-aggregate-show c = sym (length-take-le _ _ (rw (c .before .before .before .n .given .1) at (c .before .before .before .before .before .before .read-all .ensures)))
+
+show-requires : tie.Need-show-requires
+show-requires c κs = (omega (arith, slice-aggregate-show (c .before)), omega arith)
 
 pub main-spec : {M : Type 1} → statement M
 main-spec =
@@ -18,7 +22,7 @@ main-spec =
     (λ c. search needs)
     slice-aggregate-show
     (λ c. search needs)
-    (λ c κs. search needs)
+    show-requires
     (λ c. search needs)
     (λ c κs. search needs)
     (λ c. search needs)

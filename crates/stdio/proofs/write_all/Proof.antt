@@ -1,16 +1,15 @@
--- `input::read_all` meets its contract. Assumes nothing.
+-- `stdio::write_all` meets its contract. Assumes nothing.
 use borrow.Author.Needs.{needs}
-use mathlib.Core.Path.{_≡_}
 use Prim.Native.Nat.{_≤_, _-_}
 use lib.ListN.{length}
-use Rattle.input.proofs.read_all.Statement.{statement}
-use Rattle.input.proofs.read_all.Tie as tie
+use Rattle.stdio.proofs.write_all.Statement.{statement}
+use Rattle.stdio.proofs.write_all.Tie as tie
 
 abbrev Inv-loop : tie.InvT-loop
-Inv-loop fd buffer₀ done₀ buffer done = (done ≤ length buffer) × (length buffer ≡ length buffer₀)
+Inv-loop fd bytes written₀ written = written ≤ length bytes
 
 abbrev μ-loop : tie.MeasureT-loop
-μ-loop fd buffer₀ done₀ buffer done = length buffer - done
+μ-loop fd bytes written₀ written = length bytes - written
 
 loop-holds : tie.Need-loop-holds Inv-loop μ-loop
 loop-holds c = search needs
@@ -18,8 +17,8 @@ loop-holds c = search needs
 loop-again : tie.Need-loop-again Inv-loop μ-loop
 loop-again c = search needs
 
-pub read-all-spec : {M : Type 1} → statement M
-read-all-spec =
+pub write-all-spec : {M : Type 1} → statement M
+write-all-spec =
     tie.close
     (tie.spec
     Inv-loop
@@ -29,16 +28,9 @@ read-all-spec =
     (λ c. search needs)
     (λ c. search needs)
     (λ c κs. search needs)
-    (λ c. search needs)
-    (λ c. search needs)
-    (λ c. search needs)
-    (λ c. search needs)
-    (λ c. search needs)
     (λ c κs. search needs)
     (λ c. search needs)
     (λ c. search needs)
     (λ c. search needs)
-    (λ c. search needs)
     loop-again
-    (λ c. search needs)
     (λ c. search needs))
