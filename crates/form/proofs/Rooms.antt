@@ -212,8 +212,8 @@ end-length : (d n : ℕ) (c : Counts) → n < 10 ^ suc d → c .tokens ≤ n →
     → length (endLine n c) ≤ 5 * d + 43
 unfolding endLine countWords line spaced
 end-length d n c l t o k z =
-    simp length-append
-    (omega (arith, decimal-short d n l, decimal-short d (c .tokens) (omega arith), decimal-short d (c .containers) (omega arith), decimal-short d (c .keys) (omega arith), decimal-short d (c .strays) (omega arith)))
+    let small : (k : ℕ) → k ≤ n → length (decimal k) ≤ suc d = λ k q. decimal-short d k (omega arith) in
+    simp length-append (omega (arith, decimal-short d n l, small (c .tokens) t, small (c .containers) o, small (c .keys) k, small (c .strays) z))
 
 -- a walk has no more tokens than steps
 count-most : (test : Test) (k d p : ℕ) (s : List ℕ) → count test d (walkF k p s) ≤ k
@@ -248,7 +248,8 @@ text-length d (suc k) p (b ∷ s) last h l m =
     go (token (b ∷ s)) (token-brief (b ∷ s) h) (λ n q. text-length d k (p + n) (drop n (b ∷ s)) last (drop-bytes n (b ∷ s) h) q m)
   where
     go : (a : Answer Value) → All (Shown (b ∷ s)) a
-        → ((n : ℕ) → p + n + length (drop n (b ∷ s)) < 10 ^ suc d → 2 * length (textOf last (walkF k (p + n) (drop n (b ∷ s)))) ≤ (d + 23) * length (drop n (b ∷ s)) + (10 * d + 86))
+        → ((n : ℕ) → p + n + length (drop n (b ∷ s)) < 10 ^ suc d
+        → 2 * length (textOf last (walkF k (p + n) (drop n (b ∷ s)))) ≤ (d + 23) * length (drop n (b ∷ s)) + (10 * d + 86))
         → 2 * length (textOf last (step p a (λ n. walkF k (p + n) (drop n (b ∷ s))))) ≤ (d + 23) * length (b ∷ s) + (10 * d + 86)
     go (found v n) x ih =
         let r = length-drop n (b ∷ s) in
@@ -262,8 +263,9 @@ pub listing-length : (d : ℕ) (s : List ℕ) → Bytes s → length s < 10 ^ su
 unfolding listing counts walk
 listing-length d s h l =
     let n = length s in
+    let most : (test : Test) → count test 0 (walkF n 0 s) ≤ n = λ test. count-most test n 0 0 s in
     text-length d n 0 s (endLine n (counts (walk s))) h (omega arith)
-    (end-length d n (counts (walk s)) l (count-most anyToken n 0 0 s) (count-most isContainer n 0 0 s) (count-most isKey n 0 0 s) (count-most isStray n 0 0 s))
+    (end-length d n (counts (walk s)) l (most anyToken) (most isContainer) (most isKey) (most isStray))
 
 -- ---- where there is room
 

@@ -6,7 +6,7 @@ use libc::EINTR;
 use libc::STDERR_FILENO;
 use libc::STDOUT_FILENO;
 
-// How often a call that is interrupted is made: no program lives to see it, but so the loop ends.
+// How often an interrupted call is made at most: more often than a program lives for, so that the loop ends.
 const AGAIN: u64 = 18446744073709551615;
 
 // How many bytes came, at the front of the buffer.
