@@ -4,7 +4,7 @@ use Rattle.capi.proofs.parts.stivlaheim_get_split.Statement.{statement}
 use Rattle.capi.proofs.parts.stivlaheim_get_split.Tie as tie
 
 returns : tie.Need-returns
-returns c = rw (← c .before .before .before .split-reply .ensures) (c .before .before .store .ensures)
+returns c = cc
 
 pub stivlaheim-get-split-spec : {M : Type 1} → statement M
 stivlaheim-get-split-spec =

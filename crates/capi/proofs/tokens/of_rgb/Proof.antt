@@ -7,7 +7,7 @@ use Rattle.capi.proofs.tokens.of_rgb.Tie as tie
 
 returns : tie.Need-returns
 unfolding kind valueOf
-returns c = rw (← c .before .before .before .before .alpha .ensures) (c .long .ensures)
+returns c = cc
 
 pub of-rgb-spec : {M : Type 1} → statement M
 of-rgb-spec =
