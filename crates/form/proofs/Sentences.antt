@@ -8,7 +8,7 @@ use lib.ListN.{replicate}
 use Rattle.form.specs.Numbers.{le, leBytes}
 use Rattle.form.specs.Values.{Value, Open, Lookup, Truth, kind}
 use Rattle.form.specs.Table.{table, entries, find, orPlain, after}
-use Rattle.form.specs.Ids.{sample, alike, findId, idOf, OPEN, CLOSE, CHANNEL}
+use Rattle.form.specs.Ids.{OPEN, CLOSE, CHANNEL}
 use Rattle.form.specs.Refusals.{NotEncodable, BadPlace, refusalAt, refusalNumber, refusalValues}
 use Rattle.form.specs.Readers.{further, andThen, mapped, _followed-by_, _giving_, at}
 use Rattle.form.specs.Reading.{next, num, string, channel, rgb, payload, token}
@@ -28,7 +28,7 @@ use Rattle.form.proofs.Specimens.{cursor, eof}
 pub skips-hold : (skips skipContainer (0x03 ∷ 0x00 ∷ 0x04 ∷ 0x00 ∷ 0x04 ∷ 0x00 ∷ []) atStart ≡ gives tt (cursor 6))
     × (skips skipContainer (0x0f ∷ 0x00 ∷ 0x02 ∷ 0x00 ∷ 0x61 ∷ []) atStart ≡ eof 2)
     × (skips skipContainer (0x01 ∷ 0x00 ∷ 0x04 ∷ []) atStart ≡ eof 2)
-unfolding le kind table entries find orPlain after sample alike findId idOf OPEN CLOSE CHANNEL refusalAt further andThen mapped _followed-by_ _giving_ next
+unfolding le kind table entries find orPlain after OPEN CLOSE CHANNEL refusalAt further andThen mapped _followed-by_ _giving_ next
     num string channel rgb payload at stepped passing orStop closed turned skipF skipping skipContainer within landed skips
 skips-hold = (refl, refl, refl)
 
@@ -44,7 +44,7 @@ calls-hold = (refl, refl, refl)
 pub writing-holds : (normalise 99 (0x01 ∷ 0x00 ∷ 0x3f ∷ 0x0d ∷ 0x00 ∷ 0x00 ∷ 0x00 ∷ 0x01 ∷ []) ≡ unwritten (NotEncodable 2))
     × (leaves (write 3 Open) (7 ∷ 8 ∷ 9 ∷ []) ≡ 0x03 ∷ 0x00 ∷ 9 ∷ [])
     × (leaves (write 1 Open) (7 ∷ []) ≡ 7 ∷ [])
-unfolding le leBytes kind table entries find orPlain after sample alike findId idOf further andThen mapped _followed-by_ _giving_ next num payload token tag
+unfolding le leBytes kind table entries find orPlain after further andThen mapped _followed-by_ _giving_ next num payload token tag
     body spell writable wide step walkF walk leaves fitted write firstRefusal unless normalise
 writing-holds = (refl, refl, refl)
 
