@@ -52,7 +52,7 @@ impl Tally {
         }
         t.different = more(t.different);
         print(b"line ", t.lines);
-        io::write_all(STDOUT_FILENO, b" differs\n");
+        stdio::print(b" differs\n");
         t
     }
 
@@ -86,7 +86,7 @@ impl Tally {
         print(b", unreadable ", self.unreadable);
         print(b"\n", self.answers);
         print(b" answers replayed, ", self.different);
-        io::write_all(STDOUT_FILENO, b" different\n");
+        stdio::print(b" different\n");
     }
 }
 
@@ -95,6 +95,6 @@ fn more(n: u64) -> u64 {
 }
 
 fn print(words: &[u8], n: u64) {
-    io::write_all(STDOUT_FILENO, words);
+    stdio::print(words);
     io::print_decimal(STDOUT_FILENO, n);
 }
