@@ -1,28 +1,26 @@
 -- Laws of the calls, for every read: how they end where the read is found, where it is refused, and where the cursor is past the input.
 -- Assumes nothing.
-use Prim.Native.Nat.{ℕ, _+_, _-_, _≤_, _<_}
+use Prim.Native.Nat.{ℕ, _≤_, _<_}
 use native.Mathlib.Omega.{arith}
 use mathlib.Core.Path.{_≡_, refl, sym, ap, _∙_}
 use mathlib.Core.Bool.{Bool, true, false}
 use mathlib.Core.Option.{Option, none, some}
 use mathlib.Core.List.{List}
-use lib.ListN.{length, drop, length-drop}
-use lib.Seq.{length-take-le}
+use lib.ListN.{length}
 use lib.Dec.{leb}
 use borrow.Author.Tests.{leb-true, le-leb, eq-eqb, ne-eqb}
 use Rattle.form.specs.Numbers.{pick}
 use Rattle.form.specs.Refusals as F
 use Rattle.form.specs.Refusals.{Fault, tooShort, badColour}
-use Rattle.form.specs.Readers.{Answer, found, refused, ByPlace, at, placed}
+use Rattle.form.specs.Readers.{Answer, found, refused, ByPlace, at}
 use Rattle.form.specs.Reading.{token}
 use Rattle.form.specs.Skipping.{Skip, stopped}
 use Rattle.form.specs.Calls.{Cursor, movedTo, positionOf, Call, gives, refuses, within, ended, reads, optional, nexts, ifFound, peeks, landed, skips}
 use Rattle.form.proofs.Never.{never}
-use Rattle.form.proofs.Places.{at-next, at-short}
 use Rattle.form.proofs.Inside.{Inside, inside-placed, token-inside}
 use Rattle.payload.specs.Answers.{faultOf}
 use Rattle.token.specs.Tokens.{tokenOf, tokenAt}
-use Rattle.lexer.specs.Calls.{refusalOf, bytesAt}
+use Rattle.lexer.specs.Calls.{refusalOf}
 use Rattle.lexer.specs.declared.answers.LexerError.{LexerError}
 use Rattle.lexer.specs.declared.answers.Refusal.{Refusal}
 use Rattle.lexer.specs.declared.answers.Refusal.the-variants.{Lexed, BadPlace}
@@ -67,13 +65,21 @@ pub token-begins : Inside tokenAt
 unfolding tokenAt
 token-begins = inside-placed (at token) tokenOf token-inside
 
+-- from a place of the input
+module _ {A : Type 0} (f : ByPlace A) (s : List ℕ) (c : Cursor) (h : c .at ≤ length s) where
+  pub inside-got : {x : A} {n : ℕ} {d : Cursor} → f s (c .at) ≡ found x n → d ≡ movedTo c n → gives x d ≡ reads f s c
+  unfolding reads within ended
+  inside-got e m = rw (le-leb (c .at) (length s) h, e, m)
+
+  pub inside-cut : {e : Fault} {r : F.Refusal} → f s (c .at) ≡ refused e → r ≡ F.refusalAt (positionOf c (c .at)) e → refuses r c ≡ reads f s c
+  unfolding reads within ended
+  inside-cut e q = rw (le-leb (c .at) (length s) h, e, q)
+
 module _ {A : Type 0} (f : ByPlace A) (s : List ℕ) (c : Cursor) where
   pub got : Inside f → {x : A} {n : ℕ} {d : Cursor} → f s (c .at) ≡ found x n → d ≡ movedTo c n → gives x d ≡ reads f s c
-  unfolding reads within ended
   got i {x} {n} e m =
       let h : c .at < length s = i s (c .at) x n e in
-      let l : c .at ≤ length s = omega arith in
-      rw (le-leb (c .at) (length s) l, e, m)
+      inside-got f s c (omega arith) e m
 
   pub cut : {e : Fault} {r : F.Refusal} → f s (c .at) ≡ refused e → _≡_ {A = Call (Unit {0})} (refuses r c) (reads (λ _ _. refused e) s c) → refuses r c ≡ reads f s c
   unfolding reads within ended
@@ -134,22 +140,6 @@ module _ {A : Type 0} (f : ByPlace A) (s : List ℕ) (c : Cursor) where
       rw h
       (ends (λ y z. refuses (F.BadPlace p) c ≡ y → refuses (F.BadPlace p) c ≡ z) (λ a n _ q. cc)
       (λ w q. absurd (no-place (c .at) p w (cc))) (λ q. cc) (told (λ r. refuses (refusalOf r) c) q h))
-
--- ---- so many bytes
-
-module _ (n : ℕ) (s : List ℕ) (c : Cursor) (h : c .at ≤ length s) where
-  pub bytes-got : n ≤ length s - c .at → {d : Cursor} → d ≡ movedTo c (c .at + n) → gives (record { start = c .at; len = n }) d ≡ reads (bytesAt n) s c
-  unfolding reads within ended placed
-  bytes-got l m =
-      let i : n ≤ length (drop (c .at) s) = omega (arith, length-drop (c .at) s) in
-      let b : c .at + n - n ≡ c .at = omega arith in
-      rw (le-leb (c .at) (length s) h, at-next n s (c .at) i, length-take-le n (drop (c .at) s) i, b, m)
-
-  pub bytes-cut : length s - c .at < n → {r : F.Refusal} → r ≡ F.refusalAt (positionOf c (c .at)) tooShort → refuses r c ≡ reads (bytesAt n) s c
-  unfolding reads within ended placed
-  bytes-cut l q =
-      let i : length (drop (c .at) s) < n = omega (arith, length-drop (c .at) s) in
-      rw (le-leb (c .at) (length s) h, at-short n s (c .at) i, q)
 
 -- ---- skips
 

@@ -5,7 +5,7 @@ ghost use Rattle.lexer.specs.Calls.{cursorOf, bytesAt, remainderOf, stri
 use crate::Lexer;
 use crate::Place;
 use crate::answers::LexString;
-use payload::LexError;
+use payload::ReadString;
 use payload::Text;
 
 impl Lexer {
@@ -32,18 +32,11 @@ impl Lexer {
         let p = self.place(bytes);
         match p {
             Place::Inside => {
-                let left = bytes.len() - at;
-                if left < count {
-                    return LexString::Refused(self.located(LexError::Eof));
-                }
-                let next = at + count;
-                LexString::Got(
-                    Text {
-                        start: at,
-                        len: count,
-                    },
-                    self.moved(next),
-                )
+                let r = payload::read_bytes(bytes, at, count);
+                let ReadString::Got(x, next) = r else {
+                    return LexString::Refused(self.located(r.refusal()));
+                };
+                LexString::Got(x, self.moved(next))
             }
             Place::Outside(e) => LexString::Refused(e),
         }

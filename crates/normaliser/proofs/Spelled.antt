@@ -16,7 +16,7 @@ use Rattle.form.specs.Values as F
 use Rattle.form.specs.Values.{kind}
 use Rattle.form.specs.Table as T
 use Rattle.form.specs.Table.{number, entries}
-use Rattle.form.specs.Readers.{Answer, Reader, found, refused, further, andThen, mapped, placed, at}
+use Rattle.form.specs.Readers.{Answer, Reader, found, refused, further, andThen, mapped, at}
 use Rattle.form.specs.Reading.{next as nextOf, num, string, rgb, payload, token}
 use Rattle.form.specs.Spelling.{spell, wide, writable}
 use Rattle.form.proofs.LittleEndian.{drop-bytes, bytes-all}
@@ -37,16 +37,7 @@ use Rattle.normaliser.proofs.Steps.{read-spells}
 
 -- ---- what the leaves answer
 
--- a text that was read, whatever became of it
-pub text-read : {B : Type 0} (f : ℕ → List ℕ → B) (s : List ℕ) (p : ℕ) {b : B} {q : ℕ} → placed f (at string s p) ≡ found b q → Within string s p (Stands q)
-unfolding placed
-text-read f s p {b} {q} e = go (at string s p) refl e
-  where
-    go : (x : Answer (List ℕ)) → at string s p ≡ x → placed f x ≡ found b q → Within string s p (Stands q)
-    go (found t m) r e = let k : m ≡ q = cc in (t, r ∙ ap (found t) k)
-    go (refused why) r e = never (cc)
-
--- its length, and where it ends
+-- the length of a text, and where it ends
 record Length (s : List ℕ) (p q : ℕ) : Type 0 where
   there : 2 ≤ length (drop p s)
   fits : 2 + le (take 2 (drop p s)) ≤ length (drop p s)

@@ -4,6 +4,7 @@ ghost use lib.ListN.{length};
 ghost use Rattle.form.specs.Reading.{string, rgb};
 ghost use Rattle.payload.specs.Answers.{u8Answer, u16Answer, u32Answer, u64Answer};
 ghost use Rattle.normaliser.specs.Spellings.{Below, Within, Floats, Indexes, Spelt, SpeltAfter, Ran};
+use lexeme::LexemeId;
 use lexeme::number;
 use payload::ReadId;
 use payload::ReadRgb;
@@ -119,9 +120,10 @@ fn lookup(read: ReadU32) -> Spelling
 }
 
 // The token of an id among those of lookups and compact numbers, which ends at a place.
-fn among_lookups(bytes: &[u8], at: usize, n: u16) -> Spelling
-    ensures { λ r. ⌜ SpeltAfter n (now (bytes .entry)) at r ⌝ }
+fn among_lookups(bytes: &[u8], at: usize, id: LexemeId) -> Spelling
+    ensures { λ r. ⌜ SpeltAfter (id .0) (now (bytes .entry)) at r ⌝ }
 {
+    let n = id.0;
     match n {
         number::LOOKUP_U24 => fixed(bytes, at, 3),
         number::LOOKUP_U8 | number::LOOKUP_U8_ALT | number::LOOKUP_U8_SAV03 =>
@@ -174,7 +176,7 @@ fn spell(bytes: &[u8], at: usize) -> Spelling
             if number::STR_SAV03 < n {
                 return Spelling::Stands(next);
             }
-            among_lookups(bytes, next, n)
+            among_lookups(bytes, next, id)
         }
     }
 }

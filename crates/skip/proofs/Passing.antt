@@ -1,109 +1,76 @@
--- What a walk passes after an id: how the leaves answer, the arms of the code's `match`, and the widths of compact numbers. Assumes nothing.
-use Prim.Native.Nat.{ℕ, _+_, _-_, _≤_, _<_, zero-le}
+-- What a walk passes after an id: the arms of the code's `match`, and the widths of compact numbers. Assumes nothing.
+use Prim.Native.Nat.{ℕ, _-_, _≤_, _<_, zero-le}
 use native.Mathlib.Nat.{add-zero}
 use mathlib.Core.Path.{_≡_, refl, sym, ap, _∙_}
 use mathlib.Core.Bool.{Bool, true, false, _||_, or-true}
 use mathlib.Core.Option.{Option, none, some}
 use mathlib.Core.List.{List}
-use lib.ListN.{length, take, drop}
-use lib.Dec.{eqb, leb}
+use lib.Dec.{eqb}
 use borrow.Author.Tests.{eqb-true}
-use Rattle.form.specs.Numbers.{pick, le}
+use Rattle.form.specs.Numbers.{le}
 use Rattle.form.specs.Table.{Payload, number, text, colour, entries, after}
-use Rattle.form.specs.Refusals.{Fault, tooShort}
-use Rattle.form.specs.Readers.{Answer, found, refused, further, andThen, mapped, placed, at}
+use Rattle.form.specs.Refusals.{Fault}
+use Rattle.form.specs.Readers.{Answer, found, refused, mapped, placed, at}
 use Rattle.form.specs.Reading.{next, num, string}
 use Rattle.form.specs.Skipping.{passing}
 use Rattle.form.proofs.Lookups.{plain-after, compact-in, negated-in}
-use Rattle.form.proofs.Places.{num-there, num-short, string-then, at-giving}
+use Rattle.form.proofs.Places.{at-next, at-giving}
 use Rattle.form.proofs.SkipSteps.{pass-number, pass-text, pass-colour}
 use Rattle.form.proofs.Elsewhere.{eachId, listed, MissedAll, elsewhere}
 use Rattle.skip.specs.Walks.{span, stepsOver}
 
--- ---- a number or a text is refused for too few bytes, and for nothing else
-
-abbrev OnlyShort : {A : Type 0} → Answer A → Type 0
-OnlyShort (found a n) = Unit {0}
-OnlyShort (refused why) = why ≡ tooShort
-
-only-mapped : {A B : Type 0} (f : A → B) (x : Answer A) → OnlyShort x → OnlyShort (mapped f x)
-unfolding mapped
-only-mapped f (found a n) h = tt
-only-mapped f (refused why) h = h
-
-only-then : {A B : Type 0} (x : Answer A) (k : A → ℕ → Answer B) → OnlyShort x → ((a : A) (n : ℕ) → OnlyShort (k a n)) → OnlyShort (andThen x k)
-unfolding andThen
-only-then (found a n) k h g = g a n
-only-then (refused why) k h g = h
-
-only-next : (n : ℕ) (s : List ℕ) (p : ℕ) → OnlyShort (at (next n) s p)
-unfolding at next further
-only-next n s p = go (leb n (length (drop p s)))
-  where
-    go : (b : Bool) → OnlyShort (further p (pick b (found (take n (drop p s)) n) (refused tooShort)))
-    go true = tt
-    go false = refl
-
-only-string : (s : List ℕ) (p : ℕ) → OnlyShort (at string s p)
-unfolding num
-only-string s p =
-    rw (string-then s p, at-giving (next 2) le s p)
-    (only-then (mapped le (at (next 2) s p)) (λ n b. at (next n) s b) (only-mapped le (at (next 2) s p) (only-next 2 s p)) (λ n b. only-next n s b))
-
--- ---- what the leaves answer
-
--- past n bytes
-module _ (n : ℕ) (s : List ℕ) (p : ℕ) where
-  pub past-number : n ≤ length (drop p s) → mapped (λ _. tt {0}) (at (num n) s p) ≡ found tt (p + n)
-  unfolding mapped
-  past-number h = rw (num-there n s p h)
-
-  pub short-number : length (drop p s) < n → mapped (λ _. tt {0}) (at (num n) s p) ≡ refused tooShort
-  unfolding mapped
-  short-number h = rw (num-short n s p h)
-
--- past a text, whose place does not matter
-module _ {B : Type 0} (f : ℕ → List ℕ → B) (s : List ℕ) (p : ℕ) where
-  pub past-string : {b : B} {n : ℕ} → placed f (at string s p) ≡ found b n → mapped (λ _. tt {0}) (at string s p) ≡ found tt n
-  unfolding placed mapped
-  past-string {b} {n} e = go (at string s p) e
-    where
-      go : (x : Answer (List ℕ)) → placed f x ≡ found b n → mapped (λ _. tt {0}) x ≡ found tt n
-      go (found a m) q = let r : m ≡ n = cc in ap (found tt) r
-      go (refused why) q = cc
-
-  pub short-string : {why : Fault} → placed f (at string s p) ≡ refused why → mapped (λ _. tt {0}) (at string s p) ≡ refused tooShort
-  unfolding placed mapped
-  short-string {why} e = go (at string s p) (only-string s p) e
-    where
-      go : (x : Answer (List ℕ)) → OnlyShort x → placed f x ≡ refused why → mapped (λ _. tt {0}) x ≡ refused tooShort
-      go (found a m) h q = cc
-      go (refused w) h q = ap refused h
-
 -- ---- past what a walk steps over after an id
 
-abbrev pub crossed : Option ℕ → List ℕ → ℕ → Answer (Unit {0})
-crossed none s p = mapped (λ _. tt) (at string s p)
-crossed (some w) s p = mapped (λ _. tt) (at (num w) s p)
+-- the bytes there, by themselves
+abbrev pub stood : Option ℕ → List ℕ → ℕ → Answer (List ℕ)
+stood none s p = at string s p
+stood (some w) s p = at (next w) s p
+
+crossed : Option ℕ → List ℕ → ℕ → Answer (Unit {0})
+crossed o s p = mapped (λ _. tt) (stood o s p)
+
+-- whatever is made of them
+mapped-past : {A B : Type 0} (g : A → B) (x : Answer A) → mapped (λ _. tt {0}) (mapped g x) ≡ mapped (λ _. tt) x
+unfolding mapped
+mapped-past g (found a n) = refl
+mapped-past g (refused why) = refl
+
+placed-past : {A B : Type 0} (f : ℕ → A → B) (x : Answer A) → mapped (λ _. tt {0}) (placed f x) ≡ mapped (λ _. tt) x
+unfolding placed mapped
+placed-past f (found a n) = refl
+placed-past f (refused why) = refl
 
 module _ (i : ℕ) (s : List ℕ) (p : ℕ) where
   past-nothing : crossed (some 0) s p ≡ found tt p
-  past-nothing = past-number 0 s p zero-le ∙ ap (found tt) (add-zero p)
+  unfolding crossed mapped
+  past-nothing = ap (mapped (λ _. tt)) (at-next 0 s p zero-le) ∙ ap (found tt) (add-zero p)
 
   crossing : passing i s p ≡ crossed (stepsOver i) s p
+  unfolding crossed num
   crossing = go (after i) refl
     where
       go : (q : Payload) → after i ≡ q → passing i s p ≡ crossed (span q) s p
-      go (number w f) h = pass-number i s p h
+      go (number w f) h = pass-number i s p h ∙ ap (mapped (λ _. tt)) (at-giving (next w) le s p) ∙ mapped-past le (at (next w) s p)
       go (text f) h = pass-text i s p h
       go colour h = pass-colour i s p h ∙ sym past-nothing
 
-  -- in an arm of a `match`
-  pub passed : (o : Option ℕ) → stepsOver i ≡ o → crossed o s p ≡ passing i s p
-  passed o e = sym (crossing ∙ ap (λ x. crossed x s p) e)
+  -- in an arm of a `match`: by the place of the bytes
+  pub passed : {B : Type 0} (f : ℕ → List ℕ → B) (o : Option ℕ) → stepsOver i ≡ o → {x : Answer B} → x ≡ placed f (stood o s p) → mapped (λ _. tt) x ≡ passing i s p
+  unfolding crossed
+  passed f o e q = ap (mapped (λ _. tt)) q ∙ placed-past f (stood o s p) ∙ sym (crossing ∙ ap (λ x. crossed x s p) e)
 
   pub passed-nothing : stepsOver i ≡ some 0 → found tt p ≡ passing i s p
-  passed-nothing e = sym past-nothing ∙ passed (some 0) e
+  passed-nothing e = sym (crossing ∙ ap (λ x. crossed x s p) e ∙ past-nothing)
+
+-- what the walk learns from the answer: the place after, or the leaf's own refusal
+module _ {B : Type 0} {x : Answer B} {a : Answer (Unit {0})} (e : mapped (λ _. tt) x ≡ a) where
+  pub got : {b : B} {n : ℕ} → x ≡ found b n → a ≡ found tt n
+  unfolding mapped
+  got q = sym e ∙ ap (mapped (λ _. tt)) q
+
+  pub got-not : {why : Fault} → x ≡ refused why → a ≡ refused why
+  unfolding mapped
+  got-not q = sym e ∙ ap (mapped (λ _. tt)) q
 
 -- ---- the default of a `match`
 

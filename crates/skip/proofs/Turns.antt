@@ -11,7 +11,7 @@ use Rattle.form.specs.Numbers.{pick}
 use Rattle.form.specs.Values.{Value}
 use Rattle.form.specs.Ids.{OPEN, CLOSE}
 use Rattle.form.specs.Table.{Payload, number, text, colour, table, entries, find, orPlain, after}
-use Rattle.form.specs.Refusals.{Fault, tooShort}
+use Rattle.form.specs.Refusals.{Fault}
 use Rattle.form.specs.Readers.{Answer, found, refused, mapped, at}
 use Rattle.form.specs.Reading.{num, rgb, payload}
 use Rattle.form.specs.Skipping.{past, stopped, stepped, passing, orStop, closed, turned, skipping, skipContainer, skipValue}
@@ -31,7 +31,7 @@ module _ (i d : ℕ) (s : List ℕ) (p : ℕ) where
   unfolding walkAfter orStop
   after-pass f = rw f
 
-  pub cut-short : passing i s p ≡ refused tooShort → walkAfter i d s p ≡ stopped tooShort p
+  pub cut-short : {why : Fault} → passing i s p ≡ refused why → walkAfter i d s p ≡ stopped why p
   unfolding walkAfter orStop
   cut-short f = rw f
 

@@ -6,10 +6,10 @@ use mathlib.Core.List.{List}
 use lib.Dec.{eqb}
 use Rattle.form.specs.Numbers.{pick}
 use Rattle.form.specs.Table.{Payload, number, text, colour, after}
-use Rattle.form.specs.Refusals.{tooShort}
 use Rattle.form.specs.Skipping.{Skip, past, stopped, orStop, passing, turned, skipping}
+use Rattle.payload.specs.Answers.{faultOf}
 use Rattle.skip.specs.declared.walk.Turn.{Turn}
-use Rattle.skip.specs.declared.walk.Turn.the-variants.{On, Out, Short}
+use Rattle.skip.specs.declared.walk.Turn.the-variants.{On, Out, Refused}
 
 -- what a walk steps over after an id: so many bytes, or a text
 abbrev pub span : Payload → Option ℕ
@@ -32,13 +32,13 @@ walkAfter i d s p = orStop p (passing i s p) (λ _ m. turned i d m (λ c. walkFr
 abbrev pub leads : List ℕ → ℕ → Turn → Skip
 leads s p (On n d) = walkFrom d s n
 leads s p (Out n) = past n
-leads s p Short = stopped tooShort p
+leads s p (Refused e) = stopped (faultOf e) p
 
 -- how far a turn from place p goes: the depth is at most half the place after the next id
 abbrev pub Moves : ℕ → Turn → Type 0
 Moves p (On n d) = (p ≤ n) × (1 ≤ d) × (2 * d ≤ n + 2)
 Moves p (Out n) = Unit {0}
-Moves p Short = Unit {0}
+Moves p (Refused e) = Unit {0}
 
 pub record Turned (i d : ℕ) (s : List ℕ) (p : ℕ) (r : Turn) : Type 0 where
   pub answer : leads s p r ≡ walkAfter i d s p

@@ -2,10 +2,10 @@
 ghost use mathlib.Core.Path.{_≡_};
 ghost use mathlib.Core.Option.{some};
 ghost use Prim.Native.Nat.{_*_, _≤_};
-ghost use Rattle.form.specs.Readers.{at as readAt, mapped};
-ghost use Rattle.form.specs.Reading.{num, string as stringOf};
+ghost use Rattle.form.specs.Readers.{mapped};
 ghost use Rattle.form.specs.Skipping.{passing};
-ghost use Rattle.skip.specs.Skips.{skipAnswer, passedAnswer};
+ghost use Rattle.payload.specs.Answers.{textAnswer};
+ghost use Rattle.skip.specs.Skips.{skipAnswer};
 ghost use Rattle.skip.specs.Walks.{stepsOver, walkAfter, Turned};
 use crate::Skipped;
 use lexeme::LexemeId;
@@ -14,81 +14,54 @@ use payload::LexError;
 use payload::ReadId;
 use payload::ReadString;
 
-// The place after a payload; or too few bytes for it.
-enum Passed {
-    To(usize),
-    Short,
-}
-
-// After an id and its payload: on at a depth, out of the value that the walk began with, or too few bytes.
+// After an id and its payload: on at a depth, out of the value that the walk began with, or the payload's refusal.
 enum Turn {
     On(usize, u64),
     Out(usize),
-    Short,
-}
-
-// Past so many bytes.
-fn fixed(bytes: &[u8], at: usize, width: usize) -> Passed
-    ensures { λ r. ⌜ passedAnswer r ≡ mapped (λ _. tt) (readAt (num width) (now (bytes .entry)) at) ⌝ }
-{
-    if !split::has(bytes, at, width) {
-        return Passed::Short;
-    }
-    let end = at + width;
-    Passed::To(end)
-}
-
-fn string(bytes: &[u8], at: usize) -> Passed
-    ensures { λ r. ⌜ passedAnswer r ≡ mapped (λ _. tt) (readAt stringOf (now (bytes .entry)) at) ⌝ }
-{
-    let text = payload::read_string(bytes, at);
-    let ReadString::Got(_, next) = text else {
-        return Passed::Short;
-    };
-    Passed::To(next)
+    Refused(LexError),
 }
 
 // How many bytes a compact number has after its id: by arithmetic, so that the widths are no jump.
-fn compact_width(n: u16) -> usize
-    requires { ⌜ (0x0d47 ≤ n) × (n ≤ 0x0d55) ⌝ }
-    ensures { λ r. ⌜ stepsOver n ≡ some r ⌝ }
+fn compact_width(id: LexemeId) -> usize
+    requires { ⌜ (0x0d47 ≤ id .0) × (id .0 ≤ 0x0d55) ⌝ }
+    ensures { λ r. ⌜ stepsOver (id .0) ≡ some r ⌝ }
 {
-    let offset = (n - number::FIXED5_ZERO) as usize;
+    let offset = (id.0 - number::FIXED5_ZERO) as usize;
     if offset <= 7 { offset } else { offset - 7 }
 }
 
-// Past the payload of an id, where a colour's id stands alone. It has one caller, and no arm has two neighbouring numbers, so that it
+// Where the payload of an id stands; a colour's id stands alone. It has one caller, and no arm has two neighbouring numbers, so that it
 // compiles to jump tables in the caller's loop. The compact numbers come last, by their width.
-fn skip_payload(bytes: &[u8], at: usize, id: LexemeId) -> Passed
-    ensures { λ r. ⌜ passedAnswer r ≡ passing (id .0) (now (bytes .entry)) at ⌝ }
+fn skip_payload(bytes: &[u8], at: usize, id: LexemeId) -> ReadString
+    ensures { λ r. ⌜ mapped (λ _. tt) (textAnswer r) ≡ passing (id .0) (now (bytes .entry)) at ⌝ }
 {
     let n = id.0;
     match n {
-        number::QUOTED | number::UNQUOTED | number::STR_SAV03 => string(bytes, at),
+        number::QUOTED | number::UNQUOTED | number::STR_SAV03 => payload::read_string(bytes, at),
         number::BOOL | number::LOOKUP_U8 | number::LOOKUP_U8_ALT | number::LOOKUP_U8_SAV03 => {
-            fixed(bytes, at, 1)
+            payload::read_bytes(bytes, at, 1)
         }
         number::LOOKUP_U16 | number::LOOKUP_U16_ALT | number::LOOKUP_U16_SAV03 => {
-            fixed(bytes, at, 2)
+            payload::read_bytes(bytes, at, 2)
         }
         number::LOOKUP_U24 | number::LOOKUP_U24_ALT | number::LOOKUP_U24_SAV03 => {
-            fixed(bytes, at, 3)
+            payload::read_bytes(bytes, at, 3)
         }
         number::U32
         | number::I32
         | number::LOOKUP_U32
         | number::LOOKUP_U32_ALT
-        | number::LOOKUP_U32_SAV03 => fixed(bytes, at, 4),
-        number::F32 => fixed(bytes, at, 4),
-        number::U64 | number::I64 | number::F64 => fixed(bytes, at, 8),
+        | number::LOOKUP_U32_SAV03 => payload::read_bytes(bytes, at, 4),
+        number::F32 => payload::read_bytes(bytes, at, 4),
+        number::U64 | number::I64 | number::F64 => payload::read_bytes(bytes, at, 8),
         _ => {
             if n < number::FIXED5_ZERO {
-                return Passed::To(at);
+                return payload::read_bytes(bytes, at, 0);
             }
             if number::FIXED5_I56 < n {
-                return Passed::To(at);
+                return payload::read_bytes(bytes, at, 0);
             }
-            fixed(bytes, at, compact_width(n))
+            payload::read_bytes(bytes, at, compact_width(id))
         }
     }
 }
@@ -113,8 +86,8 @@ fn over(bytes: &[u8], at: usize, id: LexemeId, depth: u64) -> Turn
         }
         _ => {
             let passed = skip_payload(bytes, at, id);
-            let Passed::To(end) = passed else {
-                return Turn::Short;
+            let ReadString::Got(_, end) = passed else {
+                return Turn::Refused(passed.refusal());
             };
             if depth == 0 {
                 return Turn::Out(end);
@@ -146,8 +119,8 @@ pub(crate) fn skip_from(bytes: &[u8], start: usize, first: LexemeId) -> Skipped
             Turn::Out(end) => {
                 return Skipped::To(end);
             }
-            Turn::Short => {
-                return Skipped::Refused(LexError::Eof, at);
+            Turn::Refused(e) => {
+                return Skipped::Refused(e, at);
             }
         }
     }

@@ -16,14 +16,14 @@ use Rattle.normaliser.proofs.spelling.among_lookups.Tie as tie
 returns-2 : tie.Need-returns-2
 returns-2 c p e =
     let a = c .before .before .before .before .before .before .args in
-    let h : a .n < 0x0d4f = omega (arith, c .before .before .if2 .taken) in
-    float-arm (a .bytes .now) (c .before .before .before .before .before .shared-slice-known .given) p e (signedBy false) (compact-in (a .n) (c .before .before .before .if1 .left) h ∙ compact-is (a .n) 0x0d47 false h) (c .float .result) (rw (c .before .read-compact-f64 .ensures) at (c .float .ensures))
+    let h : a .id .0 < 0x0d4f = omega (arith, c .before .before .if2 .taken) in
+    float-arm (a .bytes .now) (c .before .before .before .before .before .shared-slice-known .given) p e (signedBy false) (compact-in (a .id .0) (c .before .before .before .if1 .left) h ∙ compact-is (a .id .0) 0x0d47 false h) (c .float .result) (rw (c .before .read-compact-f64 .ensures) at (c .float .ensures))
 
 returns-3 : tie.Need-returns-3
 returns-3 c p e =
     let a = c .before .before .before .before .before .before .before .args in
-    let h : a .n < 0x0d56 = omega (arith, c .before .before .if3 .taken) in
-    float-arm (a .bytes .now) (c .before .before .before .before .before .before .shared-slice-known .given) p e (signedBy true) (negated-in (a .n) (c .before .before .before .if2 .left) h ∙ compact-is (a .n) 0x0d4e true h) (c .float2 .result) (rw (c .before .read-compact-f642 .ensures) at (c .float2 .ensures))
+    let h : a .id .0 < 0x0d56 = omega (arith, c .before .before .if3 .taken) in
+    float-arm (a .bytes .now) (c .before .before .before .before .before .before .shared-slice-known .given) p e (signedBy true) (negated-in (a .id .0) (c .before .before .before .if2 .left) h ∙ compact-is (a .id .0) 0x0d4e true h) (c .float2 .result) (rw (c .before .read-compact-f642 .ensures) at (c .float2 .ensures))
 
 returns-4 : tie.Need-returns-4
 returns-4 c p e =

@@ -1,9 +1,10 @@
 -- `skip::walk::over` meets its contract. Assumes nothing.
 use native.Mathlib.Omega.{arith}
-use mathlib.Core.Path.{sym, _∙_}
-use Rattle.payload.proofs.Laws.{gotOf}
-use Rattle.skip.specs.Skips.{passedAnswer}
+use mathlib.Core.Path.{refl, sym, _∙_}
 use Rattle.form.proofs.SkipSteps.{passing-on}
+use Rattle.payload.specs.Answers.{textAnswer}
+use Rattle.payload.proofs.Laws.{gotOf, elseOf}
+use Rattle.skip.proofs.Passing.{got, got-not}
 use Rattle.skip.proofs.Turns.{cut-short, deeper, out, higher, onward, over-at}
 use borrow.Author.Needs.{needs}
 use Rattle.skip.proofs.walk.over.Statement.{statement}
@@ -13,11 +14,13 @@ returns : tie.Need-returns
 returns c = record { answer = sym (out _ _ _ _ (c .before .match .keys2) (c .if1 .taken)); moves = tt }
 
 returns-2 : tie.Need-returns-2
-returns-2 c = record { answer = sym (cut-short _ _ _ _ (gotOf passedAnswer (c .before .before .skip-payload .ensures) (c .enum-told .given .1))); moves = tt }
+returns-2 c =
+    let f = got-not (c .before .before .before .skip-payload .ensures) (elseOf textAnswer refl (c .before .enum-told .given .1) (c .refusal .ensures) refl) in
+    record { answer = sym (cut-short _ _ _ _ f); moves = tt }
 
 returns-3 : tie.Need-returns-3
 returns-3 c =
-    let f = gotOf passedAnswer (c .before .before .before .before .skip-payload .ensures) (c .before .before .passed .given .1) in
+    let f = got (c .before .before .before .before .skip-payload .ensures) (gotOf textAnswer refl (c .before .before .passed .given .1)) in
     let m = c .before .before .before .before .before .match .rest in
     record { answer = sym (onward _ _ _ _ (m .0 .1) (m .1) f ∙ over-at _ _ _ (c .if2 .taken)); moves = tt }
 
@@ -29,7 +32,7 @@ returns-5 c = record { answer = sym (higher _ _ _ _ (c .before .match .keys2) (o
 
 returns-6 : tie.Need-returns-6
 returns-6 c =
-    let f = gotOf passedAnswer (c .before .before .before .before .skip-payload .ensures) (c .before .before .passed .given .1) in
+    let f = got (c .before .before .before .before .skip-payload .ensures) (gotOf textAnswer refl (c .before .before .passed .given .1)) in
     let m = c .before .before .before .before .before .match .rest in
     let l = passing-on _ _ _ f in
     record { answer = sym (onward _ _ _ _ (m .0 .1) (m .1) f); moves = (l, omega arith, omega arith) }
@@ -44,6 +47,7 @@ over-spec =
     (λ c κs. search needs)
     (λ c. search needs)
     (λ c. search needs)
+    (λ c κs. search needs)
     returns-2
     returns-3
     returns-4

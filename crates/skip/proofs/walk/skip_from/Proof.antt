@@ -46,7 +46,7 @@ returns-2 c =
 
 returns-3 : tie.Need-returns-3 Inv-loop μ-loop
 returns-3 c =
-    known _ _ _ _ (c .before .before .over .ensures) (c .enum-told2 .given .1) .answer ∙ c .before .before .before .loop .inv .1
+    known _ _ _ _ (c .before .before .before .over .ensures) (c .before .turn3 .given .1) .answer ∙ c .before .before .before .before .loop .inv .1
 
 pub skip-from-spec : {M : Type 1} → statement M
 skip-from-spec =
