@@ -16,7 +16,7 @@ use mir.Val.{SFits}
 use mir.Facts.{sfits-widen}
 use Rattle.form.specs.Numbers.{pick, leBytes, Bytes}
 use Rattle.form.specs.Values.{Value, Open, Close, Equal, U32, U64, F32, F64, Lookup, Id, I32, I64, Truth, Quoted, Unquoted, Rgb}
-use Rattle.form.specs.Refusals.{Fault, tooShort, badColour, refusalNumber, refusalValues, refusalAt}
+use Rattle.form.specs.Refusals.{Fault, tooShort, badColour, refusalValues, refusalValue, refusalAt}
 use Rattle.form.specs.Readers.{Answer, found, refused}
 use Rattle.form.specs.Reading.{token}
 use Rattle.form.specs.Spelling.{bit, InType}
@@ -109,7 +109,7 @@ unfolding tokenLine line
 token-line-short p v l h = simp length-append (omega (arith, decimal-short p l, words-short v h))
 
 error-short : (p : ℕ) (f : Fault) → p < most → length (errorLine (refusalAt p f)) ≤ 200
-unfolding errorLine refusalAt refusalWord refusalNumber refusalValues line spaced
+unfolding errorLine refusalAt refusalWord refusalValue refusalValues line spaced
 error-short p tooShort l = simp length-append (omega (arith, decimal-short p l))
 error-short p badColour l = simp length-append (omega (arith, decimal-short p l))
 

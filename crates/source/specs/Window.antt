@@ -5,9 +5,9 @@ use mathlib.Core.Option.{Option, none, some}
 use mathlib.Core.List.{List, [], _++_}
 use lib.ListN.{length, take, drop}
 use lib.Seq.{sets}
-use lib.Dec.{leb, ltb, eqb}
+use lib.Dec.{leb, ltb}
 use Rattle.form.specs.Numbers.{pick}
-use Rattle.form.specs.Refusals.{Refusal, Eof, BufferTooSmall, ReadFailed, BadPlace, refusalNumber}
+use Rattle.form.specs.Refusals.{Refusal, Eof, BufferTooSmall, ReadFailed, BadPlace, isEof}
 use Rattle.source.specs.declared.ParserSource.{ParserSource}
 use Rattle.source.specs.declared.Check.{Check}
 use Rattle.source.specs.declared.Check.the-variants.{Fine, Bad}
@@ -97,7 +97,7 @@ ifGiven (refuses r s buffer) part = []
 -- refused for Eof with no byte unread: there is nothing
 unfoldable pub optional : {A : Type 0} → Step A → Step (Option A)
 optional (gives a s buffer) = gives (some a) s buffer
-optional (refuses r s buffer) = pick (eqb (refusalNumber r) 1 && leb (s .end) (s .start)) (gives none s buffer) (refuses r s buffer)
+optional (refuses r s buffer) = pick (isEof r && leb (s .end) (s .start)) (gives none s buffer) (refuses r s buffer)
 
 -- n bytes from a place
 abbrev pub textAt : ℕ → ℕ → Text

@@ -6,7 +6,7 @@ use mathlib.Core.List.{[], _∷_}
 use denote.Enum.Declared.{tagOf}
 use types.Run.{OneOf}
 use borrow.Author.Needs.{needs}
-use Rattle.form.specs.Refusals.{refusalNumber, refusalValues}
+use Rattle.form.specs.Refusals.{refusalValues, refusalValue}
 use Rattle.form.specs.Listing.{refusalWord, errorLine}
 use Rattle.normaliser.specs.declared.Normalised.{Normalised}
 use Rattle.normaliser.specs.declared.Normalised.the-variants.{Written, Eof, InvalidRgb, NotEncodable, NoRoom, TooLong}
@@ -25,15 +25,15 @@ unlined (NoRoom n) q = refl
 unlined (TooLong n) q = refl
 
 returns : tie.Need-returns
-unfolding errorLine refusalWord refusalNumber refusalValues
+unfolding errorLine refusalWord refusalValue refusalValues
 returns c = rw (c .before .before .before .before .before .before .r .given .1) (c .before .before .put-error .ensures)
 
 returns-2 : tie.Need-returns-2
-unfolding errorLine refusalWord refusalNumber refusalValues
+unfolding errorLine refusalWord refusalValue refusalValues
 returns-2 c = rw (c .before .before .before .before .before .before .r2 .given .1) (c .before .before .put-error2 .ensures)
 
 returns-3 : tie.Need-returns-3
-unfolding errorLine refusalWord refusalNumber refusalValues
+unfolding errorLine refusalWord refusalValue refusalValues
 returns-3 c = rw (c .before .before .before .before .before .before .r3 .given .1) (c .before .before .put-error3 .ensures)
 
 returns-4 : tie.Need-returns-4
