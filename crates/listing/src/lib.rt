@@ -6,7 +6,7 @@ ghost use mathlib.Core.Path.{_≡_};
 ghost use lib.ListN.{length};
 ghost use Rattle.form.specs.Refusals.{refusalAt};
 ghost use Rattle.form.specs.Ascii.{spaced};
-ghost use Rattle.form.specs.Writing.{outcome, leaves};
+ghost use Rattle.form.specs.Writing.{Follows};
 ghost use Rattle.form.specs.Listing.{countWords, endLine, errorLine, listing, list as Listing·list};
 ghost use Rattle.payload.specs.Answers.{faultOf};
 ghost use Rattle.text.specs.Put.{Put};
@@ -86,8 +86,7 @@ fn put_listing(out: &mut [u8], bytes: &[u8]) -> usize
 
 // The dump at the front of the output, or a refusal that leaves the output as it is.
 pub fn list(bytes: &[u8], out: &mut [u8]) -> Listed
-    ensures { λ r. ⌜ listedOutcome r ≡ outcome (Listing·list (length (now (out .entry))) (now (bytes .entry))) ⌝ }
-    ensures { λ r. ⌜ now (out .exit) ≡ leaves (Listing·list (length (now (out .entry))) (now (bytes .entry))) (now (out .entry)) ⌝ }
+    ensures { λ r. ⌜ Follows (Listing·list (length (now (out .entry))) (now (bytes .entry))) (listedOutcome r) (now (out .entry)) (now (out .exit)) ⌝ }
 {
     let len = bytes.len();
     if LIMIT < len {

@@ -18,10 +18,9 @@ use Rattle.form.specs.Table.{table, entries}
 use Rattle.form.specs.Ids.{sample, alike, findId, idOf}
 use Rattle.form.specs.Spelling.{tag, body, spell}
 use Rattle.form.specs.Saves.{LIMIT, walk, normal}
-use Rattle.form.specs.Writing.{written, unwritten, Outcome, wrote, outcome, leaves, fitted, firstRefusal, unless}
+use Rattle.form.specs.Writing.{written, unwritten, Outcome, wrote, outcome, leaves, Follows, fitted, firstRefusal, unless}
 use Rattle.form.proofs.Never.{never}
 use Rattle.form.proofs.Runs.{sets-append, sets-front}
-use Rattle.writer.specs.Writes.{Follows}
 use Rattle.writer.specs.Parts.{idNumber}
 use Rattle.normaliser.specs.declared.Normalised.{Normalised}
 use Rattle.normaliser.specs.declared.Normalised.the-variants.{Written}

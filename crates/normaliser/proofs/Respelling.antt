@@ -16,7 +16,7 @@ use Rattle.form.specs.Refusals as R
 use Rattle.form.specs.Readers.{found, refused}
 use Rattle.form.specs.Spelling.{spell, wide}
 use Rattle.form.specs.Saves.{Walk, cut}
-use Rattle.form.specs.Writing.{Output, unwritten, Outcome, wrote, declined, outcome, leaves, fitted, firstRefusal, unless}
+use Rattle.form.specs.Writing.{Output, unwritten, Outcome, wrote, declined, outcome, leaves, Follows, fitted, firstRefusal, unless}
 use Rattle.form.proofs.Never.{never}
 use Rattle.form.proofs.LittleEndian.{bytes-all}
 use Rattle.token.specs.declared.Token.{Token}
@@ -25,7 +25,7 @@ use Rattle.token.proofs.Walks.{Read, token-read, token-refused}
 use Rattle.writer.specs.declared.Wrote.{Wrote}
 use Rattle.writer.specs.declared.Wrote.the-variants as W
 use Rattle.writer.proofs.Wrote.{the-type}
-use Rattle.writer.specs.Writes.{writeToken, wroteOutcome, Follows}
+use Rattle.writer.specs.Writes.{writeToken, wroteOutcome}
 use Rattle.writer.proofs.Fitting.{fitted-written, fitted-refused}
 use Rattle.normaliser.specs.declared.Normalised.{Normalised}
 use Rattle.normaliser.specs.declared.Normalised.the-variants.{NotEncodable}

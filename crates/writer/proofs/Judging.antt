@@ -11,12 +11,12 @@ use types.Run.{OneOf}
 use denote.Enum.Declared.{tagOf}
 use Rattle.form.specs.Numbers.{pick}
 use Rattle.form.specs.Refusals as R
-use Rattle.form.specs.Writing.{Output, written, unwritten, wrote, outcome, leaves, fitted, unless}
+use Rattle.form.specs.Writing.{Output, written, unwritten, wrote, outcome, leaves, Follows, fitted, unless}
 use Rattle.form.proofs.Never.{never}
 use Rattle.writer.specs.declared.Wrote.{Wrote}
 use Rattle.writer.proofs.Wrote.{the-type}
 use Rattle.writer.specs.declared.Wrote.the-variants.{Written, NotEncodable, NoRoom, BadPlace}
-use Rattle.writer.specs.Writes.{wroteOutcome, Follows, Fitted}
+use Rattle.writer.specs.Writes.{wroteOutcome, Fitted}
 use Rattle.writer.specs.declared.parts.Parts.{Parts}
 use Rattle.writer.specs.Parts.{spelledBy, misplacedBy, writableBy, writeBy}
 use Rattle.writer.specs.Put.{Put}
