@@ -6,7 +6,7 @@ use mathlib.Core.List.{List, [], _++_}
 use lib.ListN.{length, take, drop}
 use lib.Seq.{sets}
 use lib.Dec.{leb, ltb}
-use Rattle.form.specs.Numbers.{pick}
+use Rattle.form.specs.Numbers.{pick, MAX}
 use Rattle.form.specs.Refusals.{Refusal, Eof, BufferTooSmall, ReadFailed, BadPlace, isEof}
 use Rattle.source.specs.declared.ParserSource.{ParserSource}
 use Rattle.source.specs.declared.Check.{Check}
@@ -41,7 +41,7 @@ checked s held supply schedule =
     (pick (ltb held (s .end)) (Bad (s .end))
     (pick (ltb supply (s .supply)) (Bad (s .supply))
     (pick (ltb schedule (s .schedule)) (Bad (s .schedule))
-    (pick (ltb 0xffff_ffff_ffff_ffff (s .position + unread s + (supply - s .supply))) (Bad (s .position)) Fine))))
+    (pick (ltb MAX (s .position + unread s + (supply - s .supply))) (Bad (s .position)) Fine))))
 
 -- n of the unread bytes are read
 abbrev pub past : ℕ → ParserSource → ParserSource
