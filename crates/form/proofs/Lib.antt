@@ -17,6 +17,7 @@ pub mod Normal
 pub mod Normalising
 pub mod Outputs
 pub mod Runs
+pub mod Puts
 pub mod Signs
 pub mod Specimens
 pub mod ListingExample

@@ -14,7 +14,7 @@ use borrow.Author.Tests.{ltb-false}
 use mir.Syntax.{w64}
 use mir.Val.{SFits}
 use mir.Facts.{sfits-widen}
-use Rattle.form.specs.Numbers.{pick, leBytes, Bytes}
+use Rattle.form.specs.Numbers.{pick, leBytes, Bytes, MAX}
 use Rattle.form.specs.Values.{Value, Open, Close, Equal, U32, U64, F32, F64, Lookup, Id, I32, I64, Truth, Quoted, Unquoted, Rgb}
 use Rattle.form.specs.Refusals.{Fault, tooShort, badColour, refusalValues, refusalValue, refusalAt}
 use Rattle.form.specs.Readers.{Answer, found, refused}
@@ -28,7 +28,6 @@ use Rattle.form.proofs.LittleEndian.{drop-bytes}
 use Rattle.form.proofs.Found.{All}
 use Rattle.form.proofs.Sound.{Sound, token-sound}
 use Rattle.form.proofs.TextsLast.{texts, Ends, token-ends}
-use Rattle.text.specs.Put.{top}
 
 -- ---- numbers: at most 20 digits
 
@@ -153,7 +152,7 @@ text-short (suc k) p (b ∷ s) last h l m =
         rw length-append (omega (arith, token-line-short p v (omega arith) (x .typed), x .some, x .there, e .fits))
     go (refused f) x e ih = omega (arith, error-short p f (omega arith))
 
-pub listing-short : (s : List ℕ) → Bytes s → length s ≤ LIMIT → length (listing s) < top
+pub listing-short : (s : List ℕ) → Bytes s → length s ≤ LIMIT → length (listing s) < MAX
 unfolding listing counts walk
 listing-short s h l =
     let n = length s in

@@ -1,5 +1,5 @@
 // Writes the normal form of standard input, of up to 8,192 bytes, to standard output.
-ghost use Rattle.text.specs.Put.{Put};
+ghost use Rattle.form.specs.Put.{Put};
 ghost use Rattle.normal.specs.Lines.{refusalLine};
 use input::Input;
 use libc::STDERR_FILENO;

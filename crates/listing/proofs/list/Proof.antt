@@ -8,7 +8,7 @@ use Rattle.form.specs.Writing.{wrote, outcome, leaves}
 use Rattle.form.specs.Listing.{listing}
 use Rattle.form.proofs.LittleEndian.{bytes-all}
 use Rattle.form.proofs.Runs.{sets-front}
-use Rattle.text.specs.Put.{top}
+use Rattle.form.specs.Numbers.{MAX}
 use Rattle.listing.proofs.Answer.{none-left, too-long, measured, fits, lacks}
 use borrow.Author.Needs.{needs}
 use Rattle.listing.proofs.list.Statement.{statement}
@@ -46,7 +46,7 @@ returns-3 c =
     let n = first .ensures .next in
     let k = measured s room b h n in
     let m : first .result ≤ room = rw e at (c .before .before .before .before .if2 .left) in
-    let z : room ≤ top = omega arith in
+    let z : room ≤ MAX = omega arith in
     rw (fits s room b h n m)
     (record { answer = ap wrote k; output = (rw e at (c .before .before .put-listing2 .ensures .bytes)) z ∙ sets-front (listing s) (a .out .now) (omega arith) })
 
