@@ -4,9 +4,8 @@ use native.Mathlib.Omega.{arith}
 use mathlib.Core.Path.{_≡_, refl}
 use mathlib.Core.List.{List}
 use lib.ListN.{length}
-use Rattle.form.specs.Refusals.{Fault, tooShort, badColour, refusalAt, refusalValues}
+use Rattle.form.specs.Refusals.{Fault, tooShort, badColour, refusalAt, refusalValues, refusalValue}
 use Rattle.form.specs.Values.{Value}
-use Rattle.form.specs.Ids.{first}
 use Rattle.form.specs.Readers.{refused}
 use Rattle.form.proofs.Walking.{from, from-start, from-end}
 use Rattle.token.specs.Tokens.{tokenAt}
@@ -24,8 +23,8 @@ unfolding counting
 at-end s p k e = rw (from-end s p (omega arith), e)
 
 -- a fault's refusal names its position
-position : (p : ℕ) (e : Fault) → first (refusalValues (refusalAt p e)) ≡ p
-unfolding refusalValues refusalAt
+position : (p : ℕ) (e : Fault) → refusalValue (refusalAt p e) ≡ p
+unfolding refusalValue refusalValues refusalAt
 position p tooShort = refl
 position p badColour = refl
 

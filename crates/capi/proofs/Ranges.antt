@@ -14,6 +14,7 @@ use mir.Syntax.{w32, w64}
 use mir.Val.{toZ, ofZ, sel}
 use mir.ValLaws.{toZ-pos}
 use types.Run.{OneOf}
+use Rattle.form.specs.Numbers.{MAX}
 use Rattle.payload.proofs.Signed.{high-half}
 use Rattle.token.specs.declared.Token.the-variants as T
 use Rattle.capi.specs.Given.{smallToken, kindTokens, kindToken}
@@ -34,7 +35,7 @@ module _ (x : ℕ) where
 
   module _ (l : 18446744071562067968 ≤ x) (h : x < 18446744073709551616) where
     abbrev lacks : ℕ
-    lacks = 18446744073709551615 - x
+    lacks = MAX - x
 
     -- the same number in 32 bits
     abbrev short : ℕ

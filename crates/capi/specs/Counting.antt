@@ -2,8 +2,7 @@
 use Prim.Native.Nat.{ℕ, _+_}
 use mathlib.Core.List.{List}
 use lib.ListN.{length}
-use Rattle.form.specs.Ids.{first}
-use Rattle.form.specs.Refusals.{refusalValues}
+use Rattle.form.specs.Refusals.{refusalValue}
 use Rattle.form.specs.Saves.{Walk, done, cut, then, walk}
 use Rattle.capi.specs.Replies.{Reply, answered, refused}
 use Rattle.capi.specs.Words.{numberWords}
@@ -11,7 +10,7 @@ use Rattle.capi.specs.Words.{numberWords}
 -- the reply for a walk to place e, with k tokens before it: a walk that is cut ends at its refusal's position
 unfoldable pub counting : ℕ → ℕ → Walk → Reply
 counting e k done = answered e (numberWords k)
-counting e k (cut r) = refused (first (refusalValues r)) r
+counting e k (cut r) = refused (refusalValue r) r
 counting e k (then p n v w) = counting e (k + 1) w
 
 unfoldable pub countReply : List ℕ → Reply

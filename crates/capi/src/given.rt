@@ -72,7 +72,7 @@ fn i32_token(x: u64) -> Given
     if x < 0xffff_ffff_8000_0000 {
         return Given::Nothing;
     }
-    let lacks = (0xffff_ffff_ffff_ffff - x) as i32;
+    let lacks = (u64::MAX - x) as i32;
     let high = -1 - lacks;
     Given::Token(Token::I32(high))
 }

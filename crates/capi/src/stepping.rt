@@ -7,7 +7,6 @@ ghost use Rattle.capi.specs.Code.{asReply};
 ghost use Rattle.capi.specs.Replies.{returned};
 ghost use Rattle.capi.specs.Steps.{stepReply, heldReturned, heldAfter};
 use crate::codes;
-use crate::kinds;
 use crate::replies;
 use crate::replies::Reply;
 use fast::Step;
@@ -64,7 +63,7 @@ fn step_reply(x: Step) -> Reply
     ensures { λ r. ⌜ asReply r ≡ stepReply (stepOf x) ⌝ }
 {
     match x {
-        Step::Fast(k, n) => replies::answered(n, kinds::kind_number(k) as u64, 0, 0),
+        Step::Fast(k, n) => replies::answered(n, k.number() as u64, 0, 0),
         Step::Slow => replies::absent(0),
     }
 }

@@ -14,7 +14,8 @@ use mir.Val.{Fits}
 use Rattle.form.specs.Numbers.{pick, le, leBytes, Bytes, negated}
 use Rattle.form.specs.Values as F
 use Rattle.form.specs.Table.{Payload, number, text, nothing}
-use Rattle.form.specs.Fast.{fast, slow, front, over, stepNumber, stepText, stepBy}
+use Rattle.form.specs.Fast.{fast, slow, front, stepNumber, stepText, stepBy}
+use Rattle.form.specs.Writing.{over}
 use Rattle.form.proofs.Never.{never}
 use Rattle.form.proofs.LittleEndian.{length-bytes, number-same, take-bytes, drop-bytes, bytes-all}
 use Rattle.form.specs.Refusals.{Fault}
@@ -57,7 +58,6 @@ hold-more i from s held h l =
 
 -- a number spelled in as many bytes as it was read from
 as-read : (w : ℕ) (t held : List ℕ) → Bytes t → w ≤ length t → over (leBytes w (le (take w t))) held ≡ take w t ++ drop w held
-unfolding over
 as-read w t held b h = rw (number-same t b w h, length-take-le w t h)
 
 -- and in more bytes: zeros come after
@@ -72,7 +72,6 @@ wider (suc n) (x ∷ u) h b =
     rw (low, high, wider n u (le-of-suc-le-suc h) (b .1))
 
 all-eight : (x : ℕ) (held : List ℕ) → length held ≡ 8 → over (leBytes 8 x) held ≡ leBytes 8 x
-unfolding over
 all-eight x held e =
     let none : drop 8 held ≡ [] = drop-of-length-le held {i = 8} (omega arith) in
     rw (length-bytes 8 x, none) (append-nil (leBytes 8 x))

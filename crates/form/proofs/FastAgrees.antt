@@ -16,7 +16,8 @@ use Rattle.form.specs.Values.{Value, Open, Close, Equal, U32, U64, F32, 
 use Rattle.form.specs.Table.{Payload, number, text, colour, table, entries, after}
 use Rattle.form.specs.Readers.{found, andThen, mapped, at}
 use Rattle.form.specs.Reading.{num, string, payload, token}
-use Rattle.form.specs.Fast.{fast, front, over, stepNumber, stepText, stepBy, fastStep}
+use Rattle.form.specs.Fast.{fast, front, stepNumber, stepText, stepBy, fastStep}
+use Rattle.form.specs.Writing.{over}
 use Rattle.form.proofs.Never.{never}
 use Rattle.form.proofs.LittleEndian.{length-bytes, le-bytes, le-take-lt, drop-bytes}
 use Rattle.form.proofs.Lookups.{InEach, by-table}
@@ -43,12 +44,11 @@ Held (Rgb r g b a) h = ⊥
 
 -- a number at the front is got back
 front-le : (w n : ℕ) (held : List ℕ) → n < 256 ^ w → le (take w (over (leBytes w n) held)) ≡ n
-unfolding over
 front-le w n held h = rw (take-at (leBytes w n) (drop (length (leBytes w n)) held) w (length-bytes w n)) (le-bytes w n h)
 
 -- two zeros are the length of an empty string
 zeros-le : (held : List ℕ) → le (take 2 (over (leBytes 8 0) held)) ≡ 0
-unfolding over le leBytes
+unfolding le leBytes
 zeros-le held = refl
 
 -- ---- by the table

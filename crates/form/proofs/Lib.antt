@@ -19,6 +19,7 @@ pub mod Normalising
 pub mod Rooms
 pub mod Outputs
 pub mod Runs
+pub mod Puts
 pub mod Signs
 pub mod Specimens
 pub mod Sentences

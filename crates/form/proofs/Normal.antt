@@ -16,7 +16,7 @@ use Rattle.form.specs.Values.{Value, Open, Close, Equal, U32, U64, F32, 
 use Rattle.form.specs.Readers.{Answer, found, refused}
 use Rattle.form.specs.Reading.{token}
 use Rattle.form.specs.Spelling.{tag, spelledChannel, spelledAlpha, body, spell, writable, wide, InType}
-use Rattle.form.specs.Saves.{Walk, step, walkF, walk, values, whole, tokens, spellAll, normal, allNarrow, Clean}
+use Rattle.form.specs.Saves.{Walk, step, walkF, walk, values, whole, tokens, spellAll, normal, allNarrow, LIMIT, Clean}
 use Rattle.form.proofs.LittleEndian.{drop-bytes, append-bytes, bytes-bytes}
 use Rattle.form.proofs.ReadsBack.{reads-back}
 use Rattle.form.proofs.Found.{All}
@@ -105,7 +105,7 @@ unfolding tokens walk normal
 normal-reads {s} c = back (tokens s) (clean-kept c .0) (length (normal s)) 0 (le-refl _)
 
 -- (c) where it is no longer than the limit it is clean, and its own normal form
-pub normal-clean : {s : List ℕ} → Clean s → length (normal s) ≤ 2147483648 → Clean (normal s) × (normal (normal s) ≡ normal s)
+pub normal-clean : {s : List ℕ} → Clean s → length (normal s) ≤ LIMIT → Clean (normal s) × (normal (normal s) ≡ normal s)
 unfolding normal
 normal-clean {s} c h = (
   record { limit = h; bytes = spelled-bytes (tokens s) (clean-kept c .0); ends = normal-reads c .1; narrow = rw (normal-reads c .0) (c .narrow) },

@@ -18,8 +18,7 @@ use mir.Facts.{sfits-widen}
 use Rattle.form.specs.Numbers.{pick, leBytes, Bytes, negated}
 use Rattle.form.specs.Values.{Value, Open, Close, Equal, U32, U64, F32, F64, Lookup, Id, I32, I64, Truth, Quoted, Unquoted, Rgb}
 use Rattle.form.specs.Table.{Payload, number, text, colour, table, entries, after}
-use Rattle.form.specs.Ids.{first}
-use Rattle.form.specs.Refusals.{Refusal, Eof, InvalidRgb, NotEncodable, NoRoom, BufferTooSmall, ReadFailed, BadPlace, TooLong, Fault, tooShort, badColour, refusalNumber, refusalValues, refusalAt}
+use Rattle.form.specs.Refusals.{Refusal, Eof, InvalidRgb, NotEncodable, NoRoom, BufferTooSmall, ReadFailed, BadPlace, TooLong, Fault, tooShort, badColour, refusalValue, refusalValues, refusalAt}
 use Rattle.form.specs.Readers.{Answer, found, refused, _giving_}
 use Rattle.form.specs.Reading.{num, string, payload, token}
 use Rattle.form.specs.Spelling.{bit, wide}
@@ -189,9 +188,9 @@ unfolding tokenLine line
 line-length d p v l = simp length-append (omega (arith, decimal-short d p l))
 
 -- the line of any refusal whose number has so many digits
-pub error-length : (d : ℕ) (r : Refusal) → first (refusalValues r) < 10 ^ suc d → length (errorLine r) ≤ d + 13
-unfolding errorLine line spaced refusalWord refusalNumber
-error-length d r h = simp length-append (omega (arith, decimal-short d (first (refusalValues r)) h, word-length r))
+pub error-length : (d : ℕ) (r : Refusal) → refusalValue r < 10 ^ suc d → length (errorLine r) ≤ d + 13
+unfolding errorLine line spaced refusalWord
+error-length d r h = simp length-append (omega (arith, decimal-short d (refusalValue r) h, word-length r))
   where
     word-length : (r : Refusal) → length (ascii (refusalWord r)) ≤ 4
     word-length (Eof p) = omega arith
@@ -204,7 +203,7 @@ error-length d r h = simp length-append (omega (arith, decimal-short d (first (r
     word-length (TooLong n) = omega arith
 
 fault-length : (d p : ℕ) (f : Fault) → p < 10 ^ suc d → length (errorLine (refusalAt p f)) ≤ d + 13
-unfolding refusalAt refusalValues
+unfolding refusalAt refusalValue refusalValues
 fault-length d p tooShort h = error-length d (Eof p) h
 fault-length d p badColour h = error-length d (InvalidRgb p) h
 

@@ -9,7 +9,7 @@ use Rattle.form.specs.Numbers.{le, leBytes}
 use Rattle.form.specs.Values.{Value, Open, Lookup, Truth, kind}
 use Rattle.form.specs.Table.{table, entries, find, orPlain, after}
 use Rattle.form.specs.Ids.{OPEN, CLOSE, CHANNEL}
-use Rattle.form.specs.Refusals.{NotEncodable, BadPlace, refusalAt, refusalNumber, refusalValues}
+use Rattle.form.specs.Refusals.{NotEncodable, BadPlace, refusalAt, refusalValue, refusalValues}
 use Rattle.form.specs.Readers.{further, andThen, mapped, _followed-by_, _giving_, at}
 use Rattle.form.specs.Reading.{next, num, string, channel, rgb, payload, token}
 use Rattle.form.specs.Skipping.{stepped, passing, orStop, closed, turned, skipF, skipping, skipContainer}
@@ -17,7 +17,7 @@ use Rattle.form.specs.Calls.{atStart, gives, refuses, within, ended, rea
 use Rattle.form.specs.Spelling.{tag, body, spell, writable, wide}
 use Rattle.form.specs.Saves.{step, walkF, walk}
 use Rattle.form.specs.Writing.{unwritten, leaves, fitted, write, firstRefusal, unless, normalise}
-use Rattle.form.specs.Fast.{Step, fast, slow, Stepped, front, over, stepNumber, stepText, stepBy, fastStep}
+use Rattle.form.specs.Fast.{Step, fast, slow, Stepped, front, stepNumber, stepText, stepBy, fastStep}
 use Rattle.form.specs.Keys.{isOpen, isClose, isEqual, deeper, equalNext, isKey, count, counts}
 use Rattle.form.specs.Ascii.{ascii, decimalF, decimal, spaced, line}
 use Rattle.form.specs.Listing.{name, shown, tokenLine, countWords, endLine, refusalWord, errorLine, textOf, listing}
@@ -52,7 +52,7 @@ writing-holds = (refl, refl, refl)
 pub fast-holds : (fastStep (0x40 ∷ 0x0d ∷ 0x07 ∷ replicate 13 0) (replicate 8 0xff) ≡ record { step = fast (kind (Lookup 7)) 3; held = 0x07 ∷ replicate 7 0 })
     × (fastStep (0x0e ∷ 0x00 ∷ 0x02 ∷ replicate 13 0) (replicate 8 0xff) ≡ record { step = fast (kind (Truth true)) 3; held = 0x02 ∷ replicate 7 0xff })
     × (fastStep (0x03 ∷ replicate 14 0) (replicate 8 0xff) ≡ record { step = slow; held = replicate 8 0xff })
-unfolding le leBytes kind table entries find orPlain after front over stepNumber stepText stepBy fastStep
+unfolding le leBytes kind table entries find orPlain after front stepNumber stepText stepBy fastStep
 fast-holds = (refl, refl, refl)
 
 -- a key stands at depth 0, a Close there is a stray, and one elsewhere ends a container; a refusal's line is the last
@@ -60,6 +60,6 @@ pub lists-hold : (listing (0x04 ∷ 0x00 ∷ 0x03 ∷ 0x00 ∷ 0x01 ∷ 0x28 ∷
     ≡ ascii "0 close\n2 open\n4 id 10241\n6 equal\n8 close\n10 id 10241\n12 equal\n14 close\nend 16 tokens 8 containers 1 keys 1 stray 2\n")
     × (listing (0x04 ∷ 0x00 ∷ 0x03 ∷ []) ≡ ascii "0 close\nerror eof 2\n")
 unfolding le kind table entries find orPlain after refusalAt further andThen mapped _followed-by_ _giving_ next num payload token step walkF walk isOpen
-    isClose isEqual deeper equalNext isKey count counts decimalF decimal spaced line name shown tokenLine countWords endLine refusalNumber refusalValues
+    isClose isEqual deeper equalNext isKey count counts decimalF decimal spaced line name shown tokenLine countWords endLine refusalValue refusalValues
     refusalWord errorLine textOf listing
 lists-hold = (refl, refl)

@@ -1,11 +1,12 @@
 -- The fast step: the next token of a window by its kind and length, with its number, length or id in eight held bytes.
 use Prim.Native.Nat.{ℕ, _+_}
-use mathlib.Core.List.{List, [], _++_}
+use mathlib.Core.List.{List, []}
 use lib.ListN.{length, take, drop}
 use lib.Dec.{leb}
 use Rattle.form.specs.Numbers.{pick, le, leBytes}
 use Rattle.form.specs.Values.{Value, Open, Close, Equal, U32, U64, F32, F64, Lookup, Id, I32, I64, Truth, Quoted, Unquoted, Rgb, kind}
 use Rattle.form.specs.Table.{Payload, number, text, colour, after}
+use Rattle.form.specs.Writing.{over}
 
 -- the kind and the length; or not fast
 pub data Step : Type 0 where
@@ -39,9 +40,6 @@ front (Truth b) n = leBytes 1 n
 front (Quoted t) n = leBytes 8 n
 front (Unquoted t) n = leBytes 8 n
 front (Rgb r g b a) n = []
-
-unfoldable pub over : List ℕ → List ℕ → List ℕ
-over bs held = bs ++ drop (length bs) held
 
 -- a number n after the id: w bytes of it
 unfoldable pub stepNumber : ℕ → (ℕ → Value) → ℕ → List ℕ → Stepped

@@ -1,7 +1,7 @@
 -- The ids that a colour and a container are told by, and what an id's payload may give.
 use Prim.Native.Nat.{ℕ}
 use mathlib.Core.Option.{none}
-use mathlib.Core.List.{List, [], _∷_}
+use mathlib.Core.List.{[]}
 use Rattle.form.specs.Values.{Value, Rgb}
 use Rattle.form.specs.Table.{Payload, number, text, colour}
 
@@ -20,7 +20,3 @@ unfoldable pub sample : Payload → Value
 sample (number w f) = f 0
 sample (text f) = f []
 sample colour = Rgb 0 0 0 none
-
-abbrev pub first : List ℕ → ℕ
-first [] = 0
-first (k ∷ ks) = k

@@ -10,6 +10,7 @@ pub mod Calls
 pub mod Spelling
 pub mod Saves
 pub mod Writing
+pub mod Put
 pub mod Fast
 pub mod Keys
 pub mod Ascii

@@ -4,11 +4,10 @@ use Prim.Native.String.{String}
 use mathlib.Core.Option.{Option, none, some}
 use mathlib.Core.List.{List, [], _∷_, _++_}
 use lib.ListN.{length}
-use lib.Dec.{leb, eqb}
+use lib.Dec.{leb}
 use Rattle.form.specs.Numbers.{pick, leBytes}
 use Rattle.form.specs.Values.{Value, Open, Close, Equal, U32, U64, F32, F64, Lookup, Id, I32, I64, Truth, Quoted, Unquoted, Rgb}
-use Rattle.form.specs.Ids.{first}
-use Rattle.form.specs.Refusals.{Refusal, TooLong, refusalNumber, refusalValues}
+use Rattle.form.specs.Refusals.{Refusal, Eof, InvalidRgb, NotEncodable, NoRoom, BufferTooSmall, ReadFailed, BadPlace, TooLong, refusalValue}
 use Rattle.form.specs.Saves.{Walk, done, cut, then, walk, LIMIT}
 use Rattle.form.specs.Writing.{Output, unwritten, fitted}
 use Rattle.form.specs.Keys.{Counts, counts}
@@ -71,12 +70,19 @@ countWords c =
 unfoldable pub endLine : ℕ → Counts → List ℕ
 endLine n c = line (ascii "end") (decimal n ∷ countWords c)
 
--- the word for a refusal: Eof, InvalidRgb, or NotEncodable, which is of a lookup; no other is shown
+-- the word for a refusal; NotEncodable is of a lookup. No other is shown, and the others have none
 unfoldable pub refusalWord : Refusal → String
-refusalWord r = pick (eqb (refusalNumber r) 1) "eof" (pick (eqb (refusalNumber r) 2) "rgb" "wide")
+refusalWord (Eof p) = "eof"
+refusalWord (InvalidRgb p) = "rgb"
+refusalWord (NotEncodable p) = "wide"
+refusalWord (NoRoom n) = ""
+refusalWord (BufferTooSmall p) = ""
+refusalWord (ReadFailed p) = ""
+refusalWord (BadPlace p) = ""
+refusalWord (TooLong n) = ""
 
 unfoldable pub errorLine : Refusal → List ℕ
-errorLine r = line (ascii "error") (ascii (refusalWord r) ∷ decimal (first (refusalValues r)) ∷ [])
+errorLine r = line (ascii "error") (ascii (refusalWord r) ∷ decimal (refusalValue r) ∷ [])
 
 -- the lines of a walk, with the last line of one that is read to its end
 unfoldable pub textOf : List ℕ → Walk → List ℕ

@@ -23,6 +23,10 @@ abbrev pub Bytes : List ℕ → Type 0
 Bytes [] = Unit {0}
 Bytes (b ∷ s) = (b < 256) × Bytes s
 
+-- the largest number of 64 bits: no place, length or position is larger
+abbrev pub MAX : ℕ
+MAX = 18446744073709551615
+
 -- a number of 64 bits, negated
 abbrev pub negated : ℕ → ℕ
 negated n = (2 ^ 64 - n) % 2 ^ 64

@@ -1,6 +1,8 @@
 -- The refusals: the scope paper's table, in its order.
 use Prim.Native.Nat.{ℕ}
+use mathlib.Core.Bool.{Bool, true, false}
 use mathlib.Core.List.{List, [], _∷_}
+use lib.ListN.{getD}
 
 -- each with what is returned with it
 pub data Refusal : Type 0 where
@@ -28,6 +30,7 @@ refusalNumber (ReadFailed p) = 6
 refusalNumber (BadPlace p) = 7
 refusalNumber (TooLong n) = 8
 
+-- what is returned with it
 unfoldable pub refusalValues : Refusal → List ℕ
 refusalValues (Eof p) = p ∷ []
 refusalValues (InvalidRgb p) = p ∷ []
@@ -37,6 +40,21 @@ refusalValues (BufferTooSmall p) = p ∷ []
 refusalValues (ReadFailed p) = p ∷ []
 refusalValues (BadPlace p) = p ∷ []
 refusalValues (TooLong n) = n ∷ []
+
+-- the first of that, which a line shows
+unfoldable pub refusalValue : Refusal → ℕ
+refusalValue r = getD (refusalValues r) 0 0
+
+-- too few bytes
+unfoldable pub isEof : Refusal → Bool
+isEof (Eof p) = true
+isEof (InvalidRgb p) = false
+isEof (NotEncodable p) = false
+isEof (NoRoom n) = false
+isEof (BufferTooSmall p) = false
+isEof (ReadFailed p) = false
+isEof (BadPlace p) = false
+isEof (TooLong n) = false
 
 -- what is wrong with bytes, wherever they stand: too few of them, or a colour that is none
 pub data Fault : Type 0 where

@@ -1,5 +1,6 @@
 -- Writing: what comes into an output with so much room, or why nothing does.
 use Prim.Native.Nat.{ℕ}
+use mathlib.Core.Path.{_≡_}
 use mathlib.Core.Option.{Option, none, some}
 use mathlib.Core.List.{List, _++_}
 use lib.ListN.{length, drop}
@@ -9,6 +10,10 @@ use Rattle.form.specs.Values.{Value}
 use Rattle.form.specs.Refusals.{Refusal, NotEncodable, NoRoom, TooLong}
 use Rattle.form.specs.Spelling.{spell, writable, wide}
 use Rattle.form.specs.Saves.{Walk, done, cut, then, walk, normal, LIMIT}
+
+-- bytes over the front of what stood there
+abbrev pub over : List ℕ → List ℕ → List ℕ
+over bs old = bs ++ drop (length bs) old
 
 -- the bytes written; or a refusal, which leaves the output unchanged
 pub data Output : Type 0 where
@@ -26,8 +31,13 @@ outcome (unwritten r) = declined r
 
 -- what the output holds then: the bytes written, and after them what stood there
 unfoldable pub leaves : Output → List ℕ → List ℕ
-leaves (written bs) out = bs ++ drop (length bs) out
+leaves (written bs) out = over bs out
 leaves (unwritten r) out = out
+
+-- the answer a is given, and the output d has become d′, as o says
+pub record Follows (o : Output) (a : Outcome) (d d′ : List ℕ) : Type 0 where
+  pub answer : a ≡ outcome o
+  pub output : d′ ≡ leaves o d
 
 -- bytes into an output with room for so many
 unfoldable pub fitted : ℕ → List ℕ → Output

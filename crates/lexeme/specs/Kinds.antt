@@ -1,35 +1,19 @@
--- The kind of an id: that of any value that may follow it.
+-- The numbers of the kinds.
 use Prim.Native.Nat.{ℕ}
-use Rattle.form.specs.Values as F
+use Rattle.form.specs.Values.{kind}
 use Rattle.form.specs.Table.{Payload, after}
 use Rattle.form.specs.Ids.{sample}
 use Rattle.lexeme.specs.declared.TokenKind.{TokenKind}
 use Rattle.lexeme.specs.declared.TokenKind.the-variants.{Open, Close, Equal, U32, U64, I32, Bool as BoolKind, Quoted, Unquoted, F32, F64, Rgb, I64, Lookup, Id}
 
-unfoldable pub kindOf : F.Value → TokenKind
-kindOf F.Open = Open
-kindOf F.Close = Close
-kindOf F.Equal = Equal
-kindOf (F.U32 n) = U32
-kindOf (F.U64 n) = U64
-kindOf (F.F32 n) = F32
-kindOf (F.F64 n) = F64
-kindOf (F.Lookup n) = Lookup
-kindOf (F.Id i) = Id
-kindOf (F.I32 z) = I32
-kindOf (F.I64 z) = I64
-kindOf (F.Truth b) = BoolKind
-kindOf (F.Quoted t) = Quoted
-kindOf (F.Unquoted t) = Unquoted
-kindOf (F.Rgb r g b a) = Rgb
+-- the number of the kind of any value that may follow an id
+abbrev pub kindBy : Payload → ℕ
+kindBy p = kind (sample p)
 
-abbrev pub kindBy : Payload → TokenKind
-kindBy p = kindOf (sample p)
-
-abbrev pub kindAt : ℕ → TokenKind
+abbrev pub kindAt : ℕ → ℕ
 kindAt i = kindBy (after i)
 
--- the number of a kind: its place in 000's TokenKind
+-- of the code's kinds: a kind's place in the original's TokenKind
 abbrev pub kindNumber : TokenKind → ℕ
 kindNumber Open = 0
 kindNumber Close = 1

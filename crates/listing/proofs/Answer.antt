@@ -5,13 +5,12 @@ use mathlib.Core.Path.{_≡_, refl}
 use mathlib.Core.List.{List, [], _∷_}
 use lib.ListN.{length}
 use borrow.Author.Tests.{le-leb, lt-leb}
-use Rattle.form.specs.Numbers.{Bytes}
+use Rattle.form.specs.Numbers.{Bytes, MAX}
 use Rattle.form.specs.Refusals.{NoRoom, TooLong}
 use Rattle.form.specs.Saves.{LIMIT}
 use Rattle.form.specs.Writing.{written, unwritten, fitted}
 use Rattle.form.specs.Listing.{listing, list}
 use Rattle.form.proofs.Rooms.{listing-length, list-fits}
-use Rattle.text.specs.Put.{top}
 
 -- an output of no bytes keeps none
 pub none-left : (d : List ℕ) → length d ≡ 0 → d ≡ []
@@ -23,7 +22,7 @@ module _ (s : List ℕ) (room : ℕ) where
   unfolding list
   too-long h = rw (lt-leb (length s) LIMIT h)
 
-  module _ (b : Bytes s) (h : length s ≤ LIMIT) {n : ℕ} (e : n ≡ min (0 + length (listing s)) top) where
+  module _ (b : Bytes s) (h : length s ≤ LIMIT) {n : ℕ} (e : n ≡ min (0 + length (listing s)) MAX) where
     pub measured : n ≡ length (listing s)
     measured = omega (arith, listing-length 9 s b (omega arith))
 

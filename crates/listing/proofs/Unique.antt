@@ -1,28 +1,33 @@
--- Any two results that the promise of `list` allows are equal, the output's bytes too. Assumes nothing.
+-- Any two results that the promise of `list` allows are equal, and so are the outputs. Assumes nothing.
 use Prim.Native.Nat.{ℕ}
-use mathlib.Core.Path.{_≡_, sym, _∙_}
+use mathlib.Core.Path.{_≡_, refl}
 use mathlib.Core.List.{List}
 use lib.ListN.{length}
-use Rattle.form.specs.Writing.{outcome, leaves}
+use Rattle.form.specs.Refusals as R
+use Rattle.form.specs.Writing.{Outcome, wrote, declined, Follows}
 use Rattle.form.specs.Listing.{list}
+use Rattle.form.proofs.Unique.{follows-one}
 use Rattle.listing.specs.Answers.{listedOutcome}
 use Rattle.listing.specs.declared.Listed.{Listed}
 use Rattle.listing.specs.declared.Listed.the-variants.{Written, NoRoom, TooLong}
 
-listed-one : (r r′ : Listed) → listedOutcome r ≡ listedOutcome r′ → r ≡ r′
-listed-one (Written n) (Written m) h = cc
-listed-one (Written n) (NoRoom m) h = cc
-listed-one (Written n) (TooLong m) h = cc
-listed-one (NoRoom n) (Written m) h = cc
-listed-one (NoRoom n) (NoRoom m) h = cc
-listed-one (NoRoom n) (TooLong m) h = cc
-listed-one (TooLong n) (Written m) h = cc
-listed-one (TooLong n) (NoRoom m) h = cc
-listed-one (TooLong n) (TooLong m) h = cc
+-- `list` answers no other refusal
+abbrev listedBack : Outcome → Listed
+listedBack (wrote n) = Written n
+listedBack (declined (R.Eof p)) = TooLong p
+listedBack (declined (R.InvalidRgb p)) = TooLong p
+listedBack (declined (R.NotEncodable p)) = TooLong p
+listedBack (declined (R.NoRoom n)) = NoRoom n
+listedBack (declined (R.BufferTooSmall p)) = TooLong p
+listedBack (declined (R.ReadFailed p)) = TooLong p
+listedBack (declined (R.BadPlace p)) = TooLong p
+listedBack (declined (R.TooLong n)) = TooLong n
 
-module _ (s out : List ℕ) where
-  pub list-one : (r r′ : Listed) → listedOutcome r ≡ outcome (list (length out) s) → listedOutcome r′ ≡ outcome (list (length out) s) → r ≡ r′
-  list-one r r′ h k = listed-one r r′ (h ∙ sym k)
+listed-back : (r : Listed) → listedBack (listedOutcome r) ≡ r
+listed-back (Written n) = refl
+listed-back (NoRoom n) = refl
+listed-back (TooLong n) = refl
 
-  pub list-bytes-one : (o o′ : List ℕ) → o ≡ leaves (list (length out) s) out → o′ ≡ leaves (list (length out) s) out → o ≡ o′
-  list-bytes-one o o′ h k = h ∙ sym k
+pub list-one : (s d : List ℕ) {r r′ : Listed} {d′ d″ : List ℕ}
+    → Follows (list (length d) s) (listedOutcome r) d d′ → Follows (list (length d) s) (listedOutcome r′) d d″ → (r ≡ r′) × (d′ ≡ d″)
+list-one s d = follows-one listedOutcome listedBack listed-back (list (length d) s) d

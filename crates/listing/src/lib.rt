@@ -6,10 +6,10 @@ ghost use mathlib.Core.Path.{_≡_};
 ghost use lib.ListN.{length};
 ghost use Rattle.form.specs.Refusals.{refusalAt};
 ghost use Rattle.form.specs.Ascii.{spaced};
-ghost use Rattle.form.specs.Writing.{outcome, leaves};
+ghost use Rattle.form.specs.Writing.{Follows};
 ghost use Rattle.form.specs.Listing.{countWords, endLine, errorLine, listing, list as Listing·list};
 ghost use Rattle.payload.specs.Answers.{faultOf};
-ghost use Rattle.text.specs.Put.{Put};
+ghost use Rattle.form.specs.Put.{Put};
 ghost use Rattle.listing.specs.Answers.{listedOutcome};
 ghost use Rattle.listing.specs.Tallies.{counted};
 use crate::tally::Tally;
@@ -20,9 +20,6 @@ use text::put_error;
 use text::put_field;
 use text::put_number;
 use token::ReadToken;
-
-// The longest save: 2^31 bytes.
-const LIMIT: usize = 2147483648;
 
 // The number of bytes written; or the number needed, or that of an input that is too long.
 pub enum Listed {
@@ -86,11 +83,10 @@ fn put_listing(out: &mut [u8], bytes: &[u8]) -> usize
 
 // The dump at the front of the output, or a refusal that leaves the output as it is.
 pub fn list(bytes: &[u8], out: &mut [u8]) -> Listed
-    ensures { λ r. ⌜ listedOutcome r ≡ outcome (Listing·list (length (now (out .entry))) (now (bytes .entry))) ⌝ }
-    ensures { λ r. ⌜ now (out .exit) ≡ leaves (Listing·list (length (now (out .entry))) (now (bytes .entry))) (now (out .entry)) ⌝ }
+    ensures { λ r. ⌜ Follows (Listing·list (length (now (out .entry))) (now (bytes .entry))) (listedOutcome r) (now (out .entry)) (now (out .exit)) ⌝ }
 {
     let len = bytes.len();
-    if LIMIT < len {
+    if token::LIMIT < len {
         return Listed::TooLong(len);
     }
     let needed = put_listing(&mut out[..0], bytes);

@@ -3,7 +3,7 @@ ghost use mathlib.Core.Path.{_≡_};
 ghost use Rattle.form.specs.Ascii.{spaced};
 ghost use Rattle.form.specs.Listing.{alphaWords};
 ghost use Rattle.payload.specs.Answers.{alphaOf};
-ghost use Rattle.text.specs.Put.{Put};
+ghost use Rattle.form.specs.Put.{Put};
 ghost use Rattle.listing.specs.Parts.{shapeWords, colourWords, partsOf, lineOf};
 use payload::Alpha;
 use payload::Rgb;

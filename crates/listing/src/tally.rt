@@ -1,7 +1,7 @@
 // The counts of a save, a token at a time.
 ghost use mathlib.Core.Path.{_≡_};
 ghost use Prim.Native.Nat.{_<_};
-ghost use Rattle.text.specs.Put.{top};
+ghost use Rattle.form.specs.Numbers.{MAX};
 ghost use Rattle.listing.specs.Tallies.{Sound, none, After};
 use token::Token;
 
@@ -32,7 +32,7 @@ impl Tally {
     // The tally after one more token.
     pub(crate) fn after(self, t: Token) -> Tally
         requires { ⌜ Sound self ⌝ }
-        requires { ⌜ self .tokens < top ⌝ }
+        requires { ⌜ self .tokens < MAX ⌝ }
         ensures { λ r. ⌜ After self t r ⌝ }
     {
         let mut c = self;

@@ -5,21 +5,21 @@ use mathlib.Core.Path.{_≡_, refl, ap, _∙_}
 use mathlib.Core.Option.{Option, none, some}
 use mathlib.Core.List.{List}
 use lib.ListN.{length}
-use Rattle.form.specs.Numbers.{Bytes}
-use Rattle.form.specs.Refusals.{Refusal, Eof, InvalidRgb, NotEncodable, NoRoom, BufferTooSmall, ReadFailed, BadPlace, TooLong, refusalValues}
+use Rattle.form.specs.Numbers.{Bytes, MAX}
+use Rattle.form.specs.Refusals.{Refusal, Eof, InvalidRgb, NotEncodable, NoRoom, BufferTooSmall, ReadFailed, BadPlace, TooLong, refusalValue, refusalValues}
 use Rattle.form.specs.Saves.{walk, normal}
 use Rattle.form.specs.Writing.{Output, written, unwritten, wrote, declined, outcome, leaves, firstRefusal, unless, normalise}
 use Rattle.form.specs.Listing.{errorLine}
 use Rattle.form.proofs.Never.{never}
 use Rattle.form.proofs.Runs.{sets-front}
 use Rattle.form.proofs.Rooms.{normalise-fits, OfSave, save-refusal, error-length}
-use Rattle.text.specs.Put.{top, Put}
+use Rattle.form.specs.Put.{Put}
 use Rattle.normaliser.specs.Passes.{unbounded}
 use Rattle.normal.specs.Lines.{orLine, shown}
 
 -- the line of a refusal of so short a save
 line-short : (n : ℕ) → n ≤ 8192 → (r : Refusal) → OfSave n r → length (errorLine r) ≤ 17
-unfolding refusalValues
+unfolding refusalValue refusalValues
 line-short n h (Eof p) o = error-length 4 (Eof p) (omega arith)
 line-short n h (InvalidRgb p) o = error-length 4 (InvalidRgb p) (omega arith)
 line-short n h (NotEncodable p) o = error-length 4 (NotEncodable p) (omega arith)
@@ -59,7 +59,7 @@ module _ (s d : List ℕ) (b : Bytes s) (h : (length s ≤ 8192) × (40960 ≤ l
 
   -- and its line is put
   pub lined : {d₁ d′ : List ℕ} {n : ℕ} (r : Refusal) → declined r ≡ outcome (normalise (length d) s) → d₁ ≡ leaves (normalise (length d) s) d
-      → length d ≤ top → Put d₁ 0 (errorLine r) d′ n → Shown n d′
+      → length d ≤ MAX → Put d₁ 0 (errorLine r) d′ n → Shown n d′
   unfolding shown leaves
   lined {d₁} {d′} {n} r e q t p =
       let w = why r e in

@@ -11,9 +11,8 @@ use denote.Enum.Declared.{tagOf}
 use types.Run.{OneOf}
 use Rattle.form.specs.Refusals as R
 use Rattle.form.specs.Saves.{walk, normal, LIMIT}
-use Rattle.form.specs.Writing.{written, unwritten, wrote, outcome, leaves, fitted, firstRefusal, unless, normalise}
+use Rattle.form.specs.Writing.{written, unwritten, wrote, outcome, leaves, Follows, fitted, firstRefusal, unless, normalise}
 use Rattle.form.proofs.Never.{never}
-use Rattle.writer.specs.Writes.{Follows}
 use Rattle.normaliser.specs.declared.Normalised.{Normalised}
 use Rattle.normaliser.specs.declared.Normalised.the-variants.{Written, Eof, InvalidRgb, NotEncodable, NoRoom, TooLong}
 use Rattle.normaliser.proofs.Normalised.{the-type}

@@ -5,11 +5,10 @@ use mathlib.Core.List.{List, _++_}
 use lib.ListN.{length, drop}
 use Rattle.form.specs.Numbers.{Bytes}
 use Rattle.form.specs.Saves.{normal, Clean}
-use Rattle.form.specs.Writing.{Output, written, unwritten, wrote, outcome, leaves, normalise}
+use Rattle.form.specs.Writing.{Output, written, unwritten, wrote, outcome, leaves, Follows, normalise}
 use Rattle.form.proofs.Never.{never}
 use Rattle.form.proofs.Normal.{normal-length}
 use Rattle.form.proofs.Normalising.{clean-fits, normalised}
-use Rattle.writer.specs.Writes.{Follows}
 use Rattle.normaliser.specs.declared.Normalised.{Normalised}
 use Rattle.normaliser.specs.declared.Normalised.the-variants.{Written}
 use Rattle.normaliser.specs.Passes.{normalisedOutcome}

@@ -1,5 +1,6 @@
 -- A pass over a save: what it has counted and written, and what is left. Assumes nothing.
-use Prim.Native.Nat.{ℕ, _+_, _-_, _*_, _^_, _≤_, _<_}
+use Prim.Native.Nat.{ℕ, _+_, _-_, _*_, _≤_, _<_}
+use native.Mathlib.Nat.{zero-add}
 use native.Mathlib.Omega.{arith}
 use mathlib.Core.Path.{_≡_, refl, sym, ap, _∙_}
 use mathlib.Core.Bool.{Bool, true, false}
@@ -11,22 +12,21 @@ use lib.Dec.{leb}
 use borrow.Author.Tests.{le-leb, lt-leb, leb-true, leb-false}
 use borrow.Rule.Slice.PartAt.{part-to-end}
 use borrow.Rule.Slice.PartMut.{put-same}
-use Rattle.form.specs.Numbers.{leBytes}
+use Rattle.form.specs.Numbers.{leBytes, MAX}
 use Rattle.form.specs.Values as F
 use Rattle.form.specs.Values.{kind}
 use Rattle.form.specs.Table.{table, entries}
 use Rattle.form.specs.Spelling.{tag, body, spell}
 use Rattle.form.specs.Saves.{LIMIT, walk, normal}
-use Rattle.form.specs.Writing.{written, unwritten, Outcome, wrote, outcome, leaves, fitted, firstRefusal, unless}
+use Rattle.form.specs.Writing.{written, unwritten, Outcome, wrote, outcome, leaves, Follows, fitted, firstRefusal, unless}
 use Rattle.form.proofs.Never.{never}
-use Rattle.form.proofs.Runs.{sets-append, sets-front}
-use Rattle.writer.specs.Writes.{Follows}
+use Rattle.form.proofs.Puts.{put-then, put-none as nothing, put-front}
 use Rattle.writer.specs.Parts.{idNumber}
 use Rattle.normaliser.specs.declared.Normalised.{Normalised}
 use Rattle.normaliser.specs.declared.Normalised.the-variants.{Written}
 use Rattle.normaliser.specs.declared.Respelled.{Respelled}
 use Rattle.normaliser.specs.declared.Respelled.the-variants.{To, Refused}
-use Rattle.normaliser.specs.Parts.{before, Spells, Placed, Puts, Respelt, Respells, Stopped, Appends}
+use Rattle.normaliser.specs.Parts.{before, Spells, Placed, Respelt, Respells, Stopped, Appends}
 use Rattle.normaliser.specs.Passes.{unbounded, Passed}
 use Rattle.normaliser.specs.Spellings.{Token, Stand}
 use Rattle.normaliser.proofs.Parts.{rest-start, rest-end, spells-none, spells-then}
@@ -61,46 +61,53 @@ module _ (d : List ℕ) (at : ℕ) (bs : List ℕ) (l : at ≤ length d) where
   put-none h = rw (lt-leb (length bs) (length (part d at)) (omega (arith, size))) (put-same at (length d - at) d)
 
 -- at the place after so many bytes
-pub puts : {d bs ys : List ℕ} {need at : ℕ} → Placed need (length d) at → ys ≡ put d at bs → Puts d need bs (back d at ys)
-puts {d} {bs} {ys} {need} {at} p o = go (leb (at + length bs) (length d)) refl
+pub appends : {d bs ys : List ℕ} {need at r : ℕ} → length d ≤ MAX → Placed need (length d) at → ys ≡ put d at bs → r ≡ need + length bs
+    → Appends d need bs (back d at ys) r
+appends {d} {bs} {ys} {need} {at} {r} m p o e = go (leb (at + length bs) (length d)) refl
   where
-    go : (f : Bool) → leb (at + length bs) (length d) ≡ f → Puts d need bs (back d at ys)
+    go : (f : Bool) → leb (at + length bs) (length d) ≡ f → Appends d need bs (back d at ys) r
     go true f =
         let new : back d at ys ≡ sets d at bs = ap (back d at) o ∙ put-room d at bs (p .inside) (leb-true (at + length bs) (length d) f) in
-        record { same = ap length new ∙ length-sets d at bs; bytes = λ h. new ∙ ap (λ (a : ℕ). sets d a bs) (p .fits (omega arith)) }
+        let kept : length (back d at ys) ≡ length d = ap length new ∙ length-sets d at bs in
+        record {
+          count = e;
+          same = kept;
+          puts = λ h. record { next = omega arith; same = kept; bytes = λ _. new ∙ ap (λ (a : ℕ). sets d a bs) (p .fits (omega arith)) };
+        }
     go false f =
         let l = leb-false (at + length bs) (length d) f in
         record {
+          count = e;
           same = ap (λ (ys : List ℕ). length (back d at ys)) o ∙ ap length (put-none d at bs (p .inside) l);
-          bytes = λ h. absurd (omega (arith, l, p .fits (omega arith)));
+          puts = λ h. absurd (omega (arith, l, p .fits (omega arith)));
         }
+
+-- nothing more
+pub appends-none : (d : List ℕ) (need : ℕ) → length d ≤ MAX → Appends d need [] d need
+appends-none d need m = record { count = omega arith; same = refl; puts = λ h. nothing d need (omega arith) }
+
+-- bytes, and then others
+appends-then : {d d₁ d₂ a b : List ℕ} {need r₁ r₂ : ℕ} → Appends d need a d₁ r₁ → Appends d₁ r₁ b d₂ r₂ → Appends d need (a ++ b) d₂ r₂
+appends-then {a = a} {b} p q = record {
+  count = omega (arith, p .count, q .count, length-append a b);
+  same = q .same ∙ p .same;
+  puts = λ h. put-then (p .puts (omega (arith, q .count))) (q .puts (omega (arith, p .same)));
+}
 
 -- ---- a pass
 
 -- it has come to place i: the tokens before it are spelled by the bytes done, which are in the output if they fit there
 pub record Going (s d₀ d : List ℕ) (i need : ℕ) : Type 0 where
   pub done : List ℕ
-  pub size : need ≡ length done
-  pub same : length d ≡ length d₀
   pub spells : Spells s 0 i done
-  pub bytes : need ≤ length d → d ≡ sets d₀ 0 done
+  pub appends : Appends d₀ 0 done d need
 
-pub going-start : (s d : List ℕ) → Going s d d 0 0
-going-start s d = record { done = []; size = refl; same = refl; spells = spells-none s 0 (omega arith); bytes = λ _. refl }
+pub going-start : (s d : List ℕ) → length d ≤ MAX → Going s d d 0 0
+going-start s d m = record { done = []; spells = spells-none s 0 (omega arith); appends = appends-none d 0 m }
 
 -- the tokens up to q are spelled by bs, and those bytes are put after the ones that are done
-pub going-on : {s d₀ d d′ bs : List ℕ} {i need n q : ℕ} → Going s d₀ d i need → Spells s i q bs → n ≡ length bs → Puts d need bs d′ → Going s d₀ d′ q (need + n)
-going-on {d₀ = d₀} {d} {bs = bs} {need = need} g k e p = record {
-  done = g .done ++ bs;
-  size = omega (arith, g .size, e, length-append (g .done) bs);
-  same = p .same ∙ g .same;
-  spells = spells-then (g .spells) k;
-  bytes = λ l.
-      p .bytes (omega (arith, e, p .same))
-      ∙ ap (λ (x : List ℕ). sets x need bs) (g .bytes (omega (arith, p .same)))
-      ∙ ap (λ (a : ℕ). sets (sets d₀ 0 (g .done)) a bs) (omega (arith, g .size))
-      ∙ sets-append (g .done) bs d₀ 0;
-}
+pub went-on : {s d₀ d d′ bs : List ℕ} {i need q r : ℕ} → Going s d₀ d i need → Spells s i q bs → Appends d need bs d′ r → Going s d₀ d′ q r
+went-on {bs = bs} g k a = record { done = g .done ++ bs; spells = spells-then (g .spells) k; appends = appends-then (g .appends) a }
 
 -- ---- how it ends
 
@@ -111,16 +118,16 @@ unbounded-none s n = rw n
 written-same : {a b : List ℕ} → written a ≡ written b → a ≡ b
 written-same e = cc
 
-pub going-end : {s d₀ d : List ℕ} {i need : ℕ} → Going s d₀ d i need → length s ≤ i → Passed s d₀ d (Written need)
+pub going-end : {s d₀ d : List ℕ} {i need : ℕ} → length d₀ ≤ MAX → Going s d₀ d i need → length s ≤ i → Passed s d₀ d (Written need)
 unfolding before outcome leaves
-going-end {s} {d₀} {d} {i} {need} g h =
+going-end {s} {d₀} {d} {i} {need} m g h =
     let e : unbounded s ≡ written (g .done) =
     sym (rest-start s) ∙ g .spells .is ∙ ap (before (g .done)) (rest-end s i h) ∙ ap written (append-nil (g .done)) in
     record {
-      answer = ap wrote (g .size) ∙ ap outcome (sym e);
+      answer = ap wrote (g .appends .count ∙ zero-add (length (g .done))) ∙ ap outcome (sym e);
       bytes = λ n l.
           let k : g .done ≡ normal s = written-same (sym e ∙ unbounded-none s n) in
-          g .bytes (omega (arith, g .size, g .same, ap length k)) ∙ ap (sets d₀ 0) k ∙ sets-front (normal s) d₀ l;
+          put-front m l (rw k at (g .appends .puts (omega (arith, g .appends .count, ap length k))));
     }
 
 pub going-stopped : {s d₀ d : List ℕ} {i need : ℕ} {x : Normalised} → Going s d₀ d i need → Stopped s i x → (d′ : List ℕ) → Passed s d₀ d′ x
@@ -134,32 +141,20 @@ going-stopped {s} {i = i} g k d′ =
 
 -- ---- the same, by what the code knows
 
-pub appends : {d bs ys : List ℕ} {need at : ℕ} {a : Outcome} → Placed need (length d) at → Follows (fitted (length (part d at)) bs) a (part d at) ys
-    → (r : ℕ) → r ≡ need + length bs → Appends d need bs (back d at ys) r
-appends p f r e = record { puts = puts p (f .output); count = e }
-
--- nothing more
-pub appends-none : (d : List ℕ) (need : ℕ) → Appends d need [] d need
-appends-none d need = record { puts = record { same = refl; bytes = λ _. refl }; count = omega arith }
-
 module _ {s d₀ d d′ : List ℕ} {i need : ℕ} {x : Respelled} (g : Going s d₀ d i need) (r : Respells s i d need d′ x) where
   pub stopped : {why : Normalised} → x ≡ Refused why → Passed s d₀ d′ why
   stopped q = going-stopped g (rw q at r) d′
 
   pub turned : {q n : ℕ} → x ≡ To q n → (i < q) × Going s d₀ d′ q (need + n)
-  turned {q} {n} e = let t : Respelt s i q n d need d′ = rw e at r in (t .more, going-on g (t .spells) (t .size) (t .puts))
+  turned {q} {n} e = let t : Respelt s i q n d need d′ = rw e at r in (t .more, went-on g (t .spells) (t .appends))
 
 -- the bytes so far are few enough to count
 pub bounded : {s d₀ d : List ℕ} {i need : ℕ} → Going s d₀ d i need → length s ≤ LIMIT → need ≤ 5 * LIMIT
-bounded g l = omega (arith, g .size, g .spells .short, g .spells .there)
+bounded g l = omega (arith, g .appends .count, g .spells .short, g .spells .there)
 
 -- a run can be copied
-pub run-there : {s d₀ d : List ℕ} {i need e : ℕ} → Going s d₀ d i need → Stand s i e → length s ≤ LIMIT → (i ≤ e) × (e ≤ length s) × (need + (e - i) < 2 ^ 64)
-run-there g h l = (h .on, h .there, omega (arith, g .size, g .spells .short, h .on, h .there))
-
--- and the tokens whose bytes were appended
-pub went-on : {s d₀ d d′ bs : List ℕ} {i need q r : ℕ} → Going s d₀ d i need → Spells s i q bs → Appends d need bs d′ r → Going s d₀ d′ q r
-went-on g k a = rw (a .count) (going-on g k refl (a .puts))
+pub run-there : {s d₀ d : List ℕ} {i need e : ℕ} → Going s d₀ d i need → Stand s i e → length s ≤ LIMIT → (i ≤ e) × (e ≤ length s) × (need + (e - i) ≤ MAX)
+run-there g h l = (h .on, h .there, omega (arith, g .appends .count, g .spells .short, h .on, h .there))
 
 module _ {s d₀ d d′ : List ℕ} {i need q r : ℕ} (x : ℕ) (g : Going s d₀ d i need) where
   pub float-on : Token s i q (spell (F.F64 x)) → Appends d need (idNumber 0x0167 8 x) d′ r → Going s d₀ d′ q r

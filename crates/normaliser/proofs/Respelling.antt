@@ -1,5 +1,5 @@
 -- What the writer's answer says of a token that was read, and of what is left of the save. Assumes nothing.
-use Prim.Native.Nat.{ℕ, _<_}
+use Prim.Native.Nat.{ℕ, _≤_, _<_}
 use native.Mathlib.Omega.{arith}
 use mathlib.Core.Path.{_≡_, refl, sym, ap, _∙_}
 use mathlib.Core.Bool.{Bool, true, false}
@@ -10,13 +10,13 @@ use mir.Syntax.{w8}
 use mir.Val.{Fits}
 use denote.Enum.Declared.{tagOf}
 use types.Run.{OneOf}
-use Rattle.form.specs.Numbers.{pick}
+use Rattle.form.specs.Numbers.{pick, MAX}
 use Rattle.form.specs.Values.{Value}
 use Rattle.form.specs.Refusals as R
 use Rattle.form.specs.Readers.{found, refused}
 use Rattle.form.specs.Spelling.{spell, wide}
 use Rattle.form.specs.Saves.{Walk, cut}
-use Rattle.form.specs.Writing.{Output, unwritten, Outcome, wrote, declined, outcome, leaves, fitted, firstRefusal, unless}
+use Rattle.form.specs.Writing.{Output, unwritten, Outcome, wrote, declined, outcome, leaves, Follows, fitted, firstRefusal, unless}
 use Rattle.form.proofs.Never.{never}
 use Rattle.form.proofs.LittleEndian.{bytes-all}
 use Rattle.token.specs.declared.Token.{Token}
@@ -25,7 +25,7 @@ use Rattle.token.proofs.Walks.{Read, token-read, token-refused}
 use Rattle.writer.specs.declared.Wrote.{Wrote}
 use Rattle.writer.specs.declared.Wrote.the-variants as W
 use Rattle.writer.proofs.Wrote.{the-type}
-use Rattle.writer.specs.Writes.{writeToken, wroteOutcome, Follows}
+use Rattle.writer.specs.Writes.{writeToken, wroteOutcome}
 use Rattle.writer.proofs.Fitting.{fitted-written, fitted-refused}
 use Rattle.normaliser.specs.declared.Normalised.{Normalised}
 use Rattle.normaliser.specs.declared.Normalised.the-variants.{NotEncodable}
@@ -33,7 +33,7 @@ use Rattle.normaliser.specs.Parts.{gives, Placed, Respelt, Stopped}
 use Rattle.normaliser.specs.Passes.{normalisedOutcome}
 use Rattle.normaliser.proofs.Parts.{rest-from}
 use Rattle.normaliser.proofs.Steps.{read-spells, token-writes}
-use Rattle.normaliser.proofs.Passing.{part, back, puts}
+use Rattle.normaliser.proofs.Passing.{part, back, appends}
 
 -- ---- the writer's answer for the bytes bs of a token, w telling whether it is a wide lookup
 
@@ -80,24 +80,23 @@ module _ (s : List ℕ) (b : (j : ℕ) → Fits w8 (getD s j 0)) (i : ℕ) {t : 
   said {d} f = f .answer ∙ ap outcome (writes (length d))
 
   -- it can be written, and its bytes are counted and put after so many others of the output d
-  respelt : {d ys : List ℕ} {need at n : ℕ} {a : Outcome} → Placed need (length d) at → Follows (doing s d at t) a (part d at) ys
+  respelt : {d ys : List ℕ} {need at n : ℕ} {a : Outcome} → length d ≤ MAX → Placed need (length d) at → Follows (doing s d at t) a (part d at) ys
       → (wide v ≡ false) × (n ≡ length (spell v)) → Respelt s i next n d need (back d at ys)
-  respelt {d} {at = at} p f k =
+  respelt {d} {at = at} m p f k =
       let o : doing s d at t ≡ fitted (length (part d at)) (spell v) = writes (length (part d at)) ∙ ap (λ (w : Bool). judged w (length (part d at)) (spell v)) (k .0) in
       record {
         bytes = spell v;
-        size = k .1;
         more = r .on;
         spells = read-spells (bytes-all s b) r (k .0);
-        puts = puts p (f .output ∙ ap (λ (x : Output). leaves x (part d at)) o);
+        appends = appends m p (f .output ∙ ap (λ (x : Output). leaves x (part d at)) o) (omega (arith, k .1));
       }
 
-  module _ {y : Wrote} {d ys : List ℕ} {need at : ℕ} (p : Placed need (length d) at) (f : Follows (doing s d at t) (wroteOutcome y) (part d at) ys) where
+  module _ {y : Wrote} {d ys : List ℕ} {need at : ℕ} (m : length d ≤ MAX) (p : Placed need (length d) at) (f : Follows (doing s d at t) (wroteOutcome y) (part d at) ys) where
     pub next-written : {n : ℕ} → y ≡ W.Written n → Respelt s i next n d need (back d at ys)
-    next-written q = respelt p f (is-written _ _ _ (ap wroteOutcome (sym q) ∙ said f))
+    next-written q = respelt m p f (is-written _ _ _ (ap wroteOutcome (sym q) ∙ said f))
 
     pub next-counted : {n : ℕ} → y ≡ W.NoRoom n → Respelt s i next n d need (back d at ys)
-    next-counted q = respelt p f (is-counted _ _ _ (ap wroteOutcome (sym q) ∙ said f))
+    next-counted q = respelt m p f (is-counted _ _ _ (ap wroteOutcome (sym q) ∙ said f))
 
   -- or it cannot
   pub next-wide : (y : Wrote) {d d′ : List ℕ} → Follows (writeToken (length d) s t) (wroteOutcome y) d d′ → OneOf (1 ∷ 3 ∷ []) (tagOf the-type y)

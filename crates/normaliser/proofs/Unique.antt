@@ -4,9 +4,8 @@ use mathlib.Core.List.{List}
 use Prim.Native.Nat.{ℕ}
 use lib.ListN.{length}
 use Rattle.form.specs.Refusals as R
-use Rattle.form.specs.Writing.{Outcome, wrote, declined, normalise}
-use Rattle.writer.specs.Writes.{Follows}
-use Rattle.writer.proofs.Unique.{follows-one}
+use Rattle.form.specs.Writing.{Outcome, wrote, declined, Follows, normalise}
+use Rattle.form.proofs.Unique.{follows-one}
 use Rattle.normaliser.specs.declared.Normalised.{Normalised}
 use Rattle.normaliser.specs.declared.Normalised.the-variants.{Written, Eof, InvalidRgb, NotEncodable, NoRoom, TooLong}
 use Rattle.normaliser.specs.Passes.{normalisedOutcome}

@@ -3,9 +3,9 @@ use Prim.Native.Nat.{ℕ, _+_, _-_, _*_, _≤_, _<_}
 use mathlib.Core.Path.{_≡_}
 use mathlib.Core.List.{List, _++_}
 use lib.ListN.{length, take, drop}
-use lib.Seq.{sets}
 use Rattle.form.specs.Refusals.{Refusal}
 use Rattle.form.specs.Saves.{Walk, walkF, values, spellAll}
+use Rattle.form.specs.Put.{Put}
 use Rattle.form.specs.Writing.{Output, written, unwritten, declined, firstRefusal, unless}
 use Rattle.normaliser.specs.declared.Normalised.{Normalised}
 use Rattle.normaliser.specs.declared.Respelled.{Respelled}
@@ -43,18 +43,18 @@ pub record Placed (need room r : ℕ) : Type 0 where
   pub inside : r ≤ room
   pub fits : need ≤ room → r ≡ need
 
--- bs, put after so many bytes of the output d, where there is room
-pub record Puts (d : List ℕ) (need : ℕ) (bs d′ : List ℕ) : Type 0 where
+-- bs are put after so many bytes of the output d, where there is room, and r counts them with those
+pub record Appends (d : List ℕ) (need : ℕ) (bs d′ : List ℕ) (r : ℕ) : Type 0 where
+  pub count : r ≡ need + length bs
   pub same : length d′ ≡ length d
-  pub bytes : need + length bs ≤ length d → d′ ≡ sets d need bs
+  pub puts : r ≤ length d → Put d need bs d′ r
 
--- a token from p up to q is spelled by n bytes, and they are put
+-- a token from p up to q is spelled by n bytes, and they are appended
 pub record Respelt (s : List ℕ) (p q n : ℕ) (d : List ℕ) (need : ℕ) (d′ : List ℕ) : Type 0 where
   pub bytes : List ℕ
-  pub size : n ≡ length bytes
   pub more : p < q
   pub spells : Spells s p q bytes
-  pub puts : Puts d need bytes d′
+  pub appends : Appends d need bytes d′ (need + n)
 
 -- or it is refused
 pub record Stopped (s : List ℕ) (p : ℕ) (x : Normalised) : Type 0 where
@@ -65,8 +65,3 @@ pub record Stopped (s : List ℕ) (p : ℕ) (x : Normalised) : Type 0 where
 abbrev pub Respells : List ℕ → ℕ → List ℕ → ℕ → List ℕ → Respelled → Type 0
 Respells s p d need d′ (To q n) = Respelt s p q n d need d′
 Respells s p d need d′ (Refused x) = Stopped s p x
-
--- bs are put after so many bytes of the output, and r counts them with those
-pub record Appends (d : List ℕ) (need : ℕ) (bs d′ : List ℕ) (r : ℕ) : Type 0 where
-  pub puts : Puts d need bs d′
-  pub count : r ≡ need + length bs

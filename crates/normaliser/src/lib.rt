@@ -2,13 +2,13 @@
 mod spelling;
 
 ghost use mathlib.Core.Path.{_≡_};
-ghost use Prim.Native.Nat.{_+_, _-_, _^_, _≤_, _<_};
+ghost use Prim.Native.Nat.{_+_, _-_, _≤_, _<_};
 ghost use lib.ListN.{length};
+ghost use Rattle.form.specs.Numbers.{MAX};
 ghost use Rattle.form.specs.Refusals.{refusalAt};
 ghost use Rattle.form.specs.Saves.{LIMIT as Saves·LIMIT};
-ghost use Rattle.form.specs.Writing.{declined, normalise as Writing·normalise};
+ghost use Rattle.form.specs.Writing.{declined, Follows, normalise as Writing·normalise};
 ghost use Rattle.payload.specs.Answers.{faultOf};
-ghost use Rattle.writer.specs.Writes.{Follows};
 ghost use Rattle.writer.specs.Parts.{idNumber};
 ghost use Rattle.normaliser.specs.Parts.{between, Placed, Respells, Appends};
 ghost use Rattle.normaliser.specs.Passes.{normalisedOutcome, Passed};
@@ -17,9 +17,6 @@ use lexeme::LexemeId;
 use payload::LexError;
 use token::ReadToken;
 use writer::Wrote;
-
-// The longest save: 2^31 bytes.
-const LIMIT: usize = 2147483648;
 
 pub enum Normalised {
     Written(usize),
@@ -76,7 +73,7 @@ fn respell(bytes: &[u8], at: usize, out: &mut [u8], need: usize) -> Respelled
 
 // An id and a number after so many bytes of the output. Answers how many there are then.
 fn put_number(out: &mut [u8], need: usize, id: LexemeId, width: u8, x: u64) -> usize
-    requires { ⌜ need + (2 + width) < 2 ^ 64 ⌝ }
+    requires { ⌜ need + (2 + width) ≤ MAX ⌝ }
     ensures { λ r. ⌜ Appends (now (out .entry)) need (idNumber (id .0) width x) (now (out .exit)) r ⌝ }
 {
     let to = place(need, out.len());
@@ -86,7 +83,7 @@ fn put_number(out: &mut [u8], need: usize, id: LexemeId, width: u8, x: u64) -> u
 
 // The bytes between two places, as they stand.
 fn copy_run(bytes: &[u8], start: usize, end: usize, out: &mut [u8], need: usize) -> usize
-    requires { ⌜ (start ≤ end) × (end ≤ length (now bytes)) × (need + (end - start) < 2 ^ 64) ⌝ }
+    requires { ⌜ (start ≤ end) × (end ≤ length (now bytes)) × (need + (end - start) ≤ MAX) ⌝ }
     ensures { λ r. ⌜ Appends (now (out .entry)) need (between (now (bytes .entry)) start end) (now (out .exit)) r ⌝ }
 {
     if start == end {
@@ -143,7 +140,7 @@ pub fn normalise(bytes: &[u8], out: &mut [u8]) -> Normalised
     ensures { λ r. ⌜ Follows (Writing·normalise (length (now (out .entry))) (now (bytes .entry))) (normalisedOutcome r) (now (out .entry)) (now (out .exit)) ⌝ }
 {
     let len = bytes.len();
-    if LIMIT < len {
+    if token::LIMIT < len {
         return Normalised::TooLong(len);
     }
     let measured = pass(bytes, &mut out[..0]);

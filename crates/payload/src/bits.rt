@@ -29,7 +29,7 @@ pub fn of_i64(x: i64) -> u64
 {
     if x < 0 {
         let m = (-(x + 1)) as u64;
-        0xffff_ffff_ffff_ffff - m
+        u64::MAX - m
     } else {
         x as u64
     }

@@ -5,6 +5,7 @@ use Prim.Native.Nat.{ℕ, _-_, _≤_}
 use native.Mathlib.Omega.{arith}
 use lib.ListN.{length, take, drop, length-append, take-append-drop}
 use lib.Seq.{length-take-le}
+use Rattle.form.specs.Numbers.{MAX}
 use Rattle.source.specs.declared.ParserSource.{ParserSource}
 use Rattle.source.specs.Window.{newStream, newSlice, Step, gives, refuses}
 use Rattle.source.specs.Runs.{Ask, ensure-bytes, advance, take-next, try-take, peek, refill, window-len, read-bstr, read-lexeme-id, peek-lexeme-id, read-rgb, ahead, World, passed, leaving, asked, run, fresh, Conserved}
@@ -57,7 +58,7 @@ module _ (supply schedule : List ℕ) where
   calls (q ∷ qs) w c = calls qs (asked supply schedule q w) (call q w c)
 
   -- from a new stream
-  pub conserved : (buffer : List ℕ) (qs : List Ask) → length supply ≤ 0xffff_ffff_ffff_ffff → Conserved supply (run supply schedule qs (fresh newStream buffer))
+  pub conserved : (buffer : List ℕ) (qs : List Ask) → length supply ≤ MAX → Conserved supply (run supply schedule qs (fresh newStream buffer))
   conserved buffer qs h =
       calls qs (fresh newStream buffer) (record {
         good = record { ordered = omega arith; within = omega arith; supplied = omega arith; scheduled = omega arith; sum = omega arith };
@@ -65,7 +66,7 @@ module _ (supply schedule : List ℕ) where
       }) .kept
 
   -- from a new slice, which is the supply
-  pub conserved-slice : (buffer : List ℕ) (qs : List Ask) → length supply ≤ 0xffff_ffff_ffff_ffff → Conserved supply (run supply schedule qs (fresh (newSlice (length supply)) buffer))
+  pub conserved-slice : (buffer : List ℕ) (qs : List Ask) → length supply ≤ MAX → Conserved supply (run supply schedule qs (fresh (newSlice (length supply)) buffer))
   conserved-slice buffer qs h =
       calls qs (fresh (newSlice (length supply)) buffer) (record {
         good = record { ordered = omega arith; within = omega arith; supplied = omega arith; scheduled = omega arith; sum = omega arith };

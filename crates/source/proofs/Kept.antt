@@ -10,7 +10,7 @@ use lib.ListN.{length, take, drop, length-append, take-append-drop}
 use lib.Seq.{sets, length-sets, drop-drop, take-add, drop-at}
 use borrow.Author.Tests.{leb-true}
 use Rattle.form.specs.Numbers.{pick}
-use Rattle.form.specs.Refusals.{refusalNumber}
+use Rattle.form.specs.Refusals.{isEof}
 use Rattle.form.specs.Values.{Value, Rgb}
 use Rattle.form.specs.Ids.{OPEN, CLOSE, CHANNEL}
 use Rattle.form.proofs.Runs.{part-length}
@@ -141,7 +141,7 @@ module _ (supply schedule : List ℕ) where
   optionally : {A : Type 0} (s : ParserSource) (buffer : List ℕ) (x : Step A) → Keeps s buffer x → Keeps s buffer (optional x)
   unfolding optional
   optionally {A} s buffer (gives a t b) k = k
-  optionally {A} s buffer (refuses r t b) k = by (eqb (refusalNumber r) 1 && leb (t .end) (t .start))
+  optionally {A} s buffer (refuses r t b) k = by (isEof r && leb (t .end) (t .start))
     where
       by : (p : Bool) → Keeps {A = Option A} s buffer (pick p (gives none t b) (refuses r t b))
       by true = k

@@ -6,7 +6,7 @@ use mathlib.Core.List.{List}
 use Prim.Native.Nat.{ℕ}
 use lib.Dec.{leb}
 use Rattle.form.specs.Numbers.{pick}
-use Rattle.form.specs.Refusals.{Fault}
+use Rattle.form.specs.Refusals.{Fault, isEof}
 use Rattle.form.specs.Readers.{found, refused}
 use Rattle.form.proofs.Never.{never}
 use Rattle.payload.specs.declared.answers.Text.{Text}
@@ -14,7 +14,7 @@ use Rattle.source.specs.declared.ParserSource.{ParserSource}
 use Rattle.source.specs.declared.answers.Stop.{Stop}
 use Rattle.source.specs.declared.answers.Tried.the-variants as Y
 use Rattle.source.specs.Window.{Step, gives, andThen, _then_, optional, textAt, ensured, taken, tried, peeked}
-use Rattle.source.specs.Answers.{stopAnswer, triedAnswer, isEof, orNothing}
+use Rattle.source.specs.Answers.{stopAnswer, triedAnswer, refusalOf, orNothing}
 
 -- what was asked for, by the answer that was found
 pub gotOf : {E A : Type 0} (answer : E → List ℕ → Step A) {r t : E} {buffer : List ℕ} {a : Step A} → answer r buffer ≡ a → r ≡ t → a ≡ answer t buffer
@@ -29,7 +29,7 @@ elseOf answer stopOf {buffer = buffer} p q h d =
 -- a refusal, for the optional forms
 pub or-nothing : (x : Stop) (buffer : List ℕ) → optional (stopAnswer x buffer) ≡ triedAnswer (orNothing x) buffer
 unfolding optional
-or-nothing x buffer = by (isEof (x .error) && leb (x .next .end) (x .next .start))
+or-nothing x buffer = by (isEof (refusalOf (x .error)) && leb (x .next .end) (x .next .start))
   where
     by : (b : Bool) → pick b (gives none (x .next) buffer) (stopAnswer x buffer) ≡ triedAnswer (pick b (Y.Nothing (x .next)) (Y.Refused x)) buffer
     by true = refl

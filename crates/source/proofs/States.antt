@@ -4,7 +4,7 @@ use mathlib.Core.Bool.{Bool, true, false}
 use Prim.Native.Nat.{ℕ, _+_, _-_, _≤_, _<_}
 use lib.Dec.{ltb}
 use borrow.Author.Tests.{ltb-false, lt-ltb, le-ltb}
-use Rattle.form.specs.Numbers.{pick}
+use Rattle.form.specs.Numbers.{pick, MAX}
 use Rattle.form.proofs.Never.{never}
 use Rattle.source.specs.declared.ParserSource.{ParserSource}
 use Rattle.source.specs.declared.Check.the-variants.{Fine, Bad}
@@ -37,18 +37,18 @@ module _ (s : ParserSource) (held supply schedule : ℕ) where
         bad-schedule h = rw (le-ltb _ _ h₁, le-ltb _ _ h₂, le-ltb _ _ h₃, lt-ltb _ _ h)
 
         module _ (h₄ : s .schedule ≤ schedule) where
-          pub bad-sum : 0xffff_ffff_ffff_ffff < sum → checked s held supply schedule ≡ Bad (s .position)
+          pub bad-sum : MAX < sum → checked s held supply schedule ≡ Bad (s .position)
           unfolding checked
           bad-sum h = rw (le-ltb _ _ h₁, le-ltb _ _ h₂, le-ltb _ _ h₃, le-ltb _ _ h₄, lt-ltb _ _ h)
 
-          pub all-fine : sum ≤ 0xffff_ffff_ffff_ffff → checked s held supply schedule ≡ Fine
+          pub all-fine : sum ≤ MAX → checked s held supply schedule ≡ Fine
           unfolding checked
           all-fine h = rw (le-ltb _ _ h₁, le-ltb _ _ h₂, le-ltb _ _ h₃, le-ltb _ _ h₄, le-ltb _ _ h)
 
 -- a state that passed them
 good-by : (s : ParserSource) (held supply schedule : ℕ) (p₁ p₂ p₃ p₄ p₅ : Bool)
     → ltb (s .end) (s .start) ≡ p₁ → ltb held (s .end) ≡ p₂ → ltb supply (s .supply) ≡ p₃ → ltb schedule (s .schedule) ≡ p₄
-    → ltb 0xffff_ffff_ffff_ffff (s .position + unread s + (supply - s .supply)) ≡ p₅
+    → ltb MAX (s .position + unread s + (supply - s .supply)) ≡ p₅
     → pick p₁ (Bad (s .start)) (pick p₂ (Bad (s .end)) (pick p₃ (Bad (s .supply)) (pick p₄ (Bad (s .schedule)) (pick p₅ (Bad (s .position)) Fine)))) ≡ Fine
     → Good s held supply schedule
 good-by s held supply schedule true p₂ p₃ p₄ p₅ h₁ h₂ h₃ h₄ h₅ e = never (cc)

@@ -1,13 +1,11 @@
--- Runs of stores, `sets`: a turn of a loop that copies, its end, and how two runs compose. Assumes nothing.
-use mathlib.Core.Path.{_≡_, refl, ap, _∙_}
+-- Runs of stores, `sets`: how two runs compose, and a turn of a loop that moves bytes. Assumes nothing.
+use mathlib.Core.Path.{_≡_, ap, _∙_}
 use mathlib.Core.List.{List, _++_}
-use Prim.Native.Nat.{ℕ, zero, suc, _+_, _-_, _≤_, _<_}
-use native.Mathlib.Nat.{not-suc-le-zero}
-use native.Mathlib.Numerals.{add-one, sub-one}
+use Prim.Native.Nat.{ℕ, _+_, _-_, _≤_, _<_}
 use native.Mathlib.Omega.{arith}
 use lib.ListN.{length, take, drop, getD, set}
-use lib.Seq.{sets, sets-eq, drop-cons, drop-drop, drop-set-lt, take-at, take-add}
-use Rattle.form.proofs.Runs.{sets-append}
+use lib.Seq.{sets, sets-eq, drop-drop, drop-set-lt, take-at, take-add}
+use Rattle.form.proofs.Runs.{sets-append, copy-step}
 
 -- two runs are one run, where the second begins at a place that is given otherwise
 pub sets-then : (a b l : List ℕ) (i j : ℕ) → j ≡ i + length a → sets (sets l i a) j b ≡ sets l i (a ++ b)
@@ -21,19 +19,9 @@ take-sets l a n e h = ap (take n) (sets-eq a l 0 (omega arith)) ∙ take-at a (d
 pub part-add : (s : List ℕ) (start n m : ℕ) → take n (drop start s) ++ take m (drop (start + n) s) ≡ take (n + m) (drop start s)
 part-add s start n m = rw (take-add n m (drop start s), drop-drop n start s)
 
--- a turn that copies a byte
-pub part-step : (out s : List ℕ) (i j left : ℕ) → 0 < left → j < length s
-    → sets (set out i (getD s j 0)) (i + 1) (take (left - 1) (drop (j + 1) s)) ≡ sets out i (take left (drop j s))
-part-step out s i j zero h k = absurd (not-suc-le-zero h)
-part-step out s i j (suc l) h k = rw (drop-cons s j 0 k, add-one i, add-one j, sub-one)
-
-pub part-done : (out rest : List ℕ) (i left : ℕ) → left ≤ 0 → out ≡ sets out i (take left rest)
-part-done out rest i zero h = refl
-part-done out rest i (suc l) h = absurd (not-suc-le-zero h)
-
 -- a turn that moves a byte of the list itself towards the front: what is still to be moved stands behind the byte that is written
 pub slide-step : (l : List ℕ) (i j left : ℕ) → 0 < left → i ≤ j → j < length l
     → sets (set l i (getD l j 0)) (i + 1) (take (left - 1) (drop (j + 1) (set l i (getD l j 0)))) ≡ sets l i (take left (drop j l))
 slide-step l i j left h o k =
     ap (λ (r : List ℕ). sets (set l i (getD l j 0)) (i + 1) (take (left - 1) r)) (drop-set-lt (j + 1) l i (getD l j 0) (omega arith))
-    ∙ part-step l l i j left h k
+    ∙ copy-step l l i j left h k

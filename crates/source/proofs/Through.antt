@@ -10,7 +10,7 @@ use lib.ListN.{length, drop, length-drop}
 use borrow.Author.Tests.{eq-eqb, ne-eqb}
 use Rattle.form.specs.Numbers.{pick}
 use Rattle.form.specs.Values.{Rgb}
-use Rattle.form.specs.Refusals.{Refusal, InvalidRgb, refusalNumber}
+use Rattle.form.specs.Refusals.{Refusal, InvalidRgb, isEof}
 use Rattle.form.proofs.Never.{never}
 use Rattle.form.proofs.Lookups.{open-is, close-is, channel-is}
 use Rattle.payload.specs.declared.answers.Text.{Text}
@@ -69,7 +69,7 @@ module _ (supply schedule : List ℕ) (s : ParserSource) (buffer : List ℕ) whe
             let y : v ≡ u = cc in
             let x : m ≡ b = cc in
             rw (← z, ← y, ← x) (ready-there n q)
-        by (refuses r v m) q h = stopped (eqb (refusalNumber r) 1 && leb (v .end) (v .start)) r v m h
+        by (refuses r v m) q h = stopped (isEof r && leb (v .end) (v .start)) r v m h
 
   -- ---- colours
 

@@ -3,7 +3,7 @@ use Prim.Native.Nat.{ℕ}
 use mathlib.Core.Bool.{Bool, _&&_}
 use mathlib.Core.Option.{Option, none, some}
 use mathlib.Core.List.{List}
-use lib.Dec.{leb, eqb}
+use lib.Dec.{leb}
 use Rattle.form.specs.Numbers.{pick}
 use Rattle.form.specs.Refusals as F
 use Rattle.form.specs.Values.{Value}
@@ -108,9 +108,6 @@ abbrev pub u32Stop : TakenU32 → Stop
 u32Stop (U.Got n s) = stopFor s
 u32Stop (U.Refused x) = x
 
-abbrev pub isEof : ParserError → Bool
-isEof e = eqb (F.refusalNumber (refusalOf e)) 1
-
 -- Eof with no byte unread is no refusal to the optional forms
 abbrev pub orNothing : Stop → Tried
-orNothing x = pick (isEof (x .error) && leb (x .next .end) (x .next .start)) (Y.Nothing (x .next)) (Y.Refused x)
+orNothing x = pick (F.isEof (refusalOf (x .error)) && leb (x .next .end) (x .next .start)) (Y.Nothing (x .next)) (Y.Refused x)

@@ -1,5 +1,6 @@
 -- A state whose numbers fit.
 use Prim.Native.Nat.{ℕ, _+_, _-_, _≤_}
+use Rattle.form.specs.Numbers.{MAX}
 use Rattle.source.specs.declared.ParserSource.{ParserSource}
 use Rattle.source.specs.Window.{unread}
 
@@ -9,4 +10,4 @@ pub record Good (s : ParserSource) (held supply schedule : ℕ) : Type 0 where
   pub within : s .end ≤ held
   pub supplied : s .supply ≤ supply
   pub scheduled : s .schedule ≤ schedule
-  pub sum : s .position + unread s + (supply - s .supply) ≤ 0xffff_ffff_ffff_ffff
+  pub sum : s .position + unread s + (supply - s .supply) ≤ MAX

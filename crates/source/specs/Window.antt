@@ -5,9 +5,9 @@ use mathlib.Core.Option.{Option, none, some}
 use mathlib.Core.List.{List, [], _++_}
 use lib.ListN.{length, take, drop}
 use lib.Seq.{sets}
-use lib.Dec.{leb, ltb, eqb}
-use Rattle.form.specs.Numbers.{pick}
-use Rattle.form.specs.Refusals.{Refusal, Eof, BufferTooSmall, ReadFailed, BadPlace, refusalNumber}
+use lib.Dec.{leb, ltb}
+use Rattle.form.specs.Numbers.{pick, MAX}
+use Rattle.form.specs.Refusals.{Refusal, Eof, BufferTooSmall, ReadFailed, BadPlace, isEof}
 use Rattle.source.specs.declared.ParserSource.{ParserSource}
 use Rattle.source.specs.declared.Check.{Check}
 use Rattle.source.specs.declared.Check.the-variants.{Fine, Bad}
@@ -41,7 +41,7 @@ checked s held supply schedule =
     (pick (ltb held (s .end)) (Bad (s .end))
     (pick (ltb supply (s .supply)) (Bad (s .supply))
     (pick (ltb schedule (s .schedule)) (Bad (s .schedule))
-    (pick (ltb 0xffff_ffff_ffff_ffff (s .position + unread s + (supply - s .supply))) (Bad (s .position)) Fine))))
+    (pick (ltb MAX (s .position + unread s + (supply - s .supply))) (Bad (s .position)) Fine))))
 
 -- n of the unread bytes are read
 abbrev pub past : ℕ → ParserSource → ParserSource
@@ -97,7 +97,7 @@ ifGiven (refuses r s buffer) part = []
 -- refused for Eof with no byte unread: there is nothing
 unfoldable pub optional : {A : Type 0} → Step A → Step (Option A)
 optional (gives a s buffer) = gives (some a) s buffer
-optional (refuses r s buffer) = pick (eqb (refusalNumber r) 1 && leb (s .end) (s .start)) (gives none s buffer) (refuses r s buffer)
+optional (refuses r s buffer) = pick (isEof r && leb (s .end) (s .start)) (gives none s buffer) (refuses r s buffer)
 
 -- n bytes from a place
 abbrev pub textAt : ℕ → ℕ → Text

@@ -1,6 +1,7 @@
 // The answers of the source's calls, each with the state that the call leaves.
 ghost use mathlib.Core.Path.{_≡_};
-ghost use Rattle.source.specs.Answers.{isEof, orNothing, takenAnswer, triedAnswer, ensuredStop, idStop, u32Stop};
+ghost use Rattle.form.specs.Refusals.{isEof};
+ghost use Rattle.source.specs.Answers.{refusalOf, orNothing, takenAnswer, triedAnswer, ensuredStop, idStop, u32Stop};
 ghost use Rattle.source.specs.Window.{takenPart, triedPart};
 use crate::ParserSource;
 use lexeme::LexemeId;
@@ -19,7 +20,7 @@ pub enum ParserError {
 impl ParserError {
     // Whether the bytes ended too early.
     pub fn is_eof(self) -> bool
-        ensures { λ r. ⌜ r ≡ isEof self ⌝ }
+        ensures { λ r. ⌜ r ≡ isEof (refusalOf self) ⌝ }
     {
         match self {
             ParserError::Eof(_) => true,

@@ -6,7 +6,7 @@ mod reads;
 ghost use mathlib.Core.Path.{_≡_};
 ghost use Prim.Native.Nat.{_+_, _-_, _≤_};
 ghost use lib.ListN.{length};
-ghost use Rattle.form.specs.Numbers.{pick};
+ghost use Rattle.form.specs.Numbers.{pick, MAX};
 ghost use Rattle.source.specs.Window.{newStream, newSlice, unread, checked, checkedIn, past, landed, topped, ensured, once, refilled, advanced, windowLen, windowOf, textIn, taken, tried, peeked};
 ghost use Rattle.source.specs.Answers.{ensuredAnswer, refilledAnswer, advancedAnswer, windowLenAnswer, takenAnswer, triedAnswer};
 ghost use Rattle.source.specs.Good.{Good};
@@ -101,7 +101,7 @@ impl ParserSource {
         if schedule < self.schedule {
             return Check::Bad(self.schedule);
         }
-        let spare = 0xffff_ffff_ffff_ffff - (self.end - self.start);
+        let spare = usize::MAX - (self.end - self.start);
         let left = supply - self.supply;
         if spare < left {
             return Check::Bad(self.position);
@@ -124,7 +124,7 @@ impl ParserSource {
 
     // The state after its unread bytes moved to the front, and reads behind them.
     fn landed(self, r: Reads) -> Self
-        requires { ⌜ (self .start ≤ self .end) × (unread self + r .got ≤ 0xffff_ffff_ffff_ffff) × (self .supply + r .got ≤ 0xffff_ffff_ffff_ffff) × (self .schedule + r .used ≤ 0xffff_ffff_ffff_ffff) ⌝ }
+        requires { ⌜ (self .start ≤ self .end) × (unread self + r .got ≤ MAX) × (self .supply + r .got ≤ MAX) × (self .schedule + r .used ≤ MAX) ⌝ }
         ensures { λ s. ⌜ s ≡ landed self r ⌝ }
     {
         ParserSource {
@@ -251,7 +251,7 @@ impl ParserSource {
 
     // The state after so many of its unread bytes.
     pub(crate) fn past(self, bytes: usize) -> Self
-        requires { ⌜ (self .start + bytes ≤ 0xffff_ffff_ffff_ffff) × (self .position + bytes ≤ 0xffff_ffff_ffff_ffff) ⌝ }
+        requires { ⌜ (self .start + bytes ≤ MAX) × (self .position + bytes ≤ MAX) ⌝ }
         ensures { λ r. ⌜ r ≡ past bytes self ⌝ }
     {
         ParserSource {

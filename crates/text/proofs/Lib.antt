@@ -1,4 +1,3 @@
-pub mod Writes
 pub mod Words
 pub mod Sign
 pub mod Unique

@@ -5,8 +5,8 @@ ghost use mathlib.Core.List.{[], _∷_};
 ghost use Prim.Native.Nat.{_<_};
 ghost use lib.IntN.{natAbs};
 ghost use Rattle.form.specs.Numbers.{leBytes};
+ghost use Rattle.form.specs.Put.{Put};
 ghost use Rattle.form.specs.Ascii.{ascii, digit as Ascii·digit, decimal, signed, hex, hexOrDash, truth, spaced, line};
-ghost use Rattle.text.specs.Put.{Put};
 
 // One byte.
 pub fn put(out: &mut [u8], at: usize, b: u8) -> usize

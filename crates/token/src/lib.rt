@@ -27,6 +27,9 @@ use payload::ReadU64;
 use payload::Rgb;
 use payload::Text;
 
+// The longest save that is written in normal form or dumped: 2^31 bytes.
+pub const LIMIT: usize = 2147483648;
+
 // A string is where its text stands; a float is the number that its bytes spell.
 pub enum Token {
     Open,

@@ -9,19 +9,19 @@ use mathlib.Core.Logic.{⊎-elim}
 use lib.ListN.{length}
 use types.Run.{OneOf}
 use denote.Enum.Declared.{tagOf}
-use Rattle.form.specs.Numbers.{pick}
+use Rattle.form.specs.Numbers.{pick, MAX}
 use Rattle.form.specs.Refusals as R
-use Rattle.form.specs.Writing.{Output, written, unwritten, wrote, outcome, leaves, fitted, unless}
+use Rattle.form.specs.Writing.{Output, written, unwritten, wrote, outcome, leaves, Follows, fitted, unless}
 use Rattle.form.proofs.Never.{never}
 use Rattle.writer.specs.declared.Wrote.{Wrote}
 use Rattle.writer.proofs.Wrote.{the-type}
 use Rattle.writer.specs.declared.Wrote.the-variants.{Written, NotEncodable, NoRoom, BadPlace}
-use Rattle.writer.specs.Writes.{wroteOutcome, Follows, Fitted}
+use Rattle.writer.specs.Writes.{wroteOutcome, Fitted}
 use Rattle.writer.specs.declared.parts.Parts.{Parts}
 use Rattle.writer.specs.Parts.{spelledBy, misplacedBy, writableBy, writeBy}
-use Rattle.writer.specs.Put.{Put}
+use Rattle.form.specs.Put.{Put}
 use Rattle.writer.proofs.Fitting.{fitted-written}
-use Rattle.writer.proofs.Stores.{put-front}
+use Rattle.form.proofs.Puts.{put-front}
 
 -- a refusal leaves the output unchanged
 pub refused-leaves : (o : Output) (r : Wrote) (d : List ℕ) → wroteOutcome r ≡ outcome o → OneOf (1 ∷ 2 ∷ 3 ∷ []) (tagOf the-type r) → leaves o d ≡ d
@@ -64,6 +64,6 @@ module _ (d bs : List ℕ) {m : ℕ} (r : Wrote) (l : length bs ≡ m) (f : Fitt
     pub room : length bs ≤ length d
     room = is .1
 
-    pub stored : {d′ : List ℕ} {p : ℕ} → Put d 0 bs d′ p → Follows (fitted (length d) bs) (wroteOutcome r) d d′
+    pub stored : {d′ : List ℕ} {p : ℕ} → length d ≤ MAX → Put d 0 bs d′ p → Follows (fitted (length d) bs) (wroteOutcome r) d d′
     unfolding leaves
-    stored p = record { answer = f bs l; output = put-front room p ∙ ap (λ o. leaves o d) (sym (is .2)) }
+    stored m p = record { answer = f bs l; output = put-front m room p ∙ ap (λ o. leaves o d) (sym (is .2)) }

@@ -1,21 +1,16 @@
 -- Any two results that the promise allows are equal, and so are the outputs. Assumes nothing.
 use Prim.Native.Nat.{ℕ}
-use mathlib.Core.Path.{_≡_, refl, sym, _∙_}
+use mathlib.Core.Path.{_≡_, refl}
 use mathlib.Core.List.{List}
 use lib.ListN.{length}
 use Rattle.form.specs.Refusals as R
-use Rattle.form.specs.Writing.{Output, Outcome, wrote, declined, fitted}
-use Rattle.form.proofs.Unique.{same}
+use Rattle.form.specs.Writing.{Outcome, wrote, declined, Follows, fitted}
+use Rattle.form.proofs.Unique.{follows-one}
 use Rattle.token.specs.declared.Token.{Token}
 use Rattle.writer.specs.declared.Wrote.{Wrote}
 use Rattle.writer.specs.declared.Wrote.the-variants.{Written, NotEncodable, NoRoom, BadPlace}
 use Rattle.writer.specs.Parts.{idNumber}
-use Rattle.writer.specs.Writes.{writeToken, wroteOutcome, Follows}
-
--- of any answer that can be read back from what it stands for
-pub follows-one : {A : Type 0} (answer : A → Outcome) (back : Outcome → A) → ((r : A) → back (answer r) ≡ r) → (o : Output) (d : List ℕ)
-    → {r r′ : A} {d′ d″ : List ℕ} → Follows o (answer r) d d′ → Follows o (answer r′) d d″ → (r ≡ r′) × (d′ ≡ d″)
-follows-one answer back h o d {r} {r′} f g = (same answer back h r r′ (f .answer) (g .answer), f .output ∙ sym (g .output))
+use Rattle.writer.specs.Writes.{writeToken, wroteOutcome}
 
 -- the writer answers no other refusal
 abbrev wroteBack : Outcome → Wrote

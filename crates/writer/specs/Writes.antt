@@ -5,7 +5,7 @@ use mathlib.Core.Option.{Option, none}
 use mathlib.Core.List.{List}
 use lib.ListN.{length}
 use Rattle.form.specs.Refusals as R
-use Rattle.form.specs.Writing.{Output, Outcome, wrote, declined, outcome, leaves, fitted, unless, write}
+use Rattle.form.specs.Writing.{Output, Outcome, wrote, declined, outcome, fitted, unless, write}
 use Rattle.token.specs.declared.Token.{Token}
 use Rattle.token.specs.declared.Token.the-variants.{Open, Close, Equal, U32, U64, I32, Bool, Quoted, Unquoted, F32, F64, Rgb, I64, Lookup, Id}
 use Rattle.token.specs.Tokens.{valueOf}
@@ -40,11 +40,6 @@ wroteOutcome (Written n) = wrote n
 wroteOutcome (NotEncodable p) = declined (R.NotEncodable p)
 wroteOutcome (NoRoom n) = declined (R.NoRoom n)
 wroteOutcome (BadPlace p) = declined (R.BadPlace p)
-
--- the answer a is given, and the output d has become d′, as o says
-pub record Follows (o : Output) (a : Outcome) (d d′ : List ℕ) : Type 0 where
-  pub answer : a ≡ outcome o
-  pub output : d′ ≡ leaves o d
 
 -- what is answered of any bytes of this number
 abbrev pub Fitted : ℕ → ℕ → Wrote → Type 0

@@ -2,8 +2,8 @@
 ghost use Prim.Native.Nat.{_+_, _≤_};
 ghost use lib.ListN.{length};
 ghost use Rattle.form.specs.Numbers.{leBytes};
+ghost use Rattle.form.specs.Put.{Put};
 ghost use Rattle.form.specs.Spelling.{spelledChannel};
-ghost use Rattle.writer.specs.Put.{Put};
 ghost use Rattle.writer.specs.Parts.{idNumber, idText, colourEnd, channels as Parts·channels, idColour, spelledBy};
 use crate::parts::Parts;
 use lexeme::LexemeId;

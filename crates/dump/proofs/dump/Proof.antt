@@ -13,7 +13,7 @@ returns c =
     let start = call .before .before .before .before in
     let s = start .args .bytes .now in
     dumped s (start .args .out .now) (bytes-all s (call .before .before .before .shared-slice-known .given)) (start .pre)
-    (sym (ap listedOutcome (c .before .n .given .1)) ∙ call .list .ensures .0) (call .list .ensures .1)
+    (sym (ap listedOutcome (c .before .n .given .1)) ∙ call .list .ensures .answer) (call .list .ensures .output)
 
 returns-2 : tie.Need-returns-2
 returns-2 c =
@@ -21,7 +21,7 @@ returns-2 c =
     let start = call .before .before .before .before in
     let s = start .args .bytes .now in
     never-declined s (start .args .out .now) (bytes-all s (call .before .before .before .shared-slice-known .given)) (start .pre)
-    (sym (ap listedOutcome (c .before .n2 .given .1)) ∙ call .list .ensures .0)
+    (sym (ap listedOutcome (c .before .n2 .given .1)) ∙ call .list .ensures .answer)
 
 returns-3 : tie.Need-returns-3
 returns-3 c =
@@ -29,7 +29,7 @@ returns-3 c =
     let start = call .before .before .before .before in
     let s = start .args .bytes .now in
     never-declined s (start .args .out .now) (bytes-all s (call .before .before .before .shared-slice-known .given)) (start .pre)
-    (sym (ap listedOutcome (c .before .n3 .given .1)) ∙ call .list .ensures .0)
+    (sym (ap listedOutcome (c .before .n3 .given .1)) ∙ call .list .ensures .answer)
 
 pub dump-spec : {M : Type 1} → statement M
 dump-spec =

@@ -5,7 +5,7 @@ use mathlib.Core.List.{[]}
 use lib.Dec.{lit≤}
 use Rattle.form.specs.Values as F
 use Rattle.form.specs.Table.{after, orPlain, find, entries, table}
-use Rattle.form.specs.Fast.{front, over, stepBy}
+use Rattle.form.specs.Fast.{front, stepBy}
 use Rattle.form.proofs.Lookups.{unquoted-at, lookup1-at, lookup2-at, lookup3-at, lookup4-at, range-from, compact-at, negated-in, plain-below, plain-above}
 use Rattle.lexeme.specs.declared.TokenKind.the-variants.{Open, Close, Equal, U32, U64, I32, Bool, Quoted, Unquoted, F32, F64, I64}
 use Rattle.fast.proofs.Laws.{at-most-7, narrow, Ready, copy-arm, lookup-arm, compact-arm, negated-arm, text-arm, alone-arm, zeros-held, id-arm, arm-by}
@@ -34,15 +34,15 @@ ready : (c : tie.After-shared-slice-known) → Ready (c .before .args .window .n
 ready c = record { bytes = c .shared-slice-known .given; long = c .before .pre .0; eight = search needs }
 
 returns : tie.Need-returns
-unfolding after orPlain find entries table F.kind front over
+unfolding after orPlain find entries table F.kind front
 returns c = arm-by _ _ (c .alone .ensures) (ap after (c .before .match .keys1)) (alone-arm (ready (c .before .before)) F.Equal Equal _ refl refl)
 
 returns-2 : tie.Need-returns-2
-unfolding after orPlain find entries table F.kind front over
+unfolding after orPlain find entries table F.kind front
 returns-2 c = arm-by _ _ (c .alone2 .ensures) (ap after (c .before .match .keys2)) (alone-arm (ready (c .before .before)) F.Open Open _ refl refl)
 
 returns-3 : tie.Need-returns-3
-unfolding after orPlain find entries table F.kind front over
+unfolding after orPlain find entries table F.kind front
 returns-3 c = arm-by _ _ (c .alone3 .ensures) (ap after (c .before .match .keys3)) (alone-arm (ready (c .before .before)) F.Close Close _ refl refl)
 
 returns-4 : tie.Need-returns-4

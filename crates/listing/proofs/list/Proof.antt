@@ -8,7 +8,7 @@ use Rattle.form.specs.Writing.{wrote, outcome, leaves}
 use Rattle.form.specs.Listing.{listing}
 use Rattle.form.proofs.LittleEndian.{bytes-all}
 use Rattle.form.proofs.Runs.{sets-front}
-use Rattle.text.specs.Put.{top}
+use Rattle.form.specs.Numbers.{MAX}
 use Rattle.listing.proofs.Answer.{none-left, too-long, measured, fits, lacks}
 use borrow.Author.Needs.{needs}
 use Rattle.listing.proofs.list.Statement.{statement}
@@ -18,7 +18,7 @@ returns : tie.Need-returns
 unfolding outcome leaves
 returns c =
     let a = c .before .before .before .args in
-    rw (too-long (a .bytes .now) (length (a .out .now)) (c .if1 .taken)) (refl, refl)
+    rw (too-long (a .bytes .now) (length (a .out .now)) (c .if1 .taken)) (record { answer = refl; output = refl })
 
 returns-2 : tie.Need-returns-2
 unfolding outcome leaves
@@ -31,7 +31,7 @@ returns-2 c =
     let b = bytes-all s (c .before .before .before .before .before .before .before .shared-slice-known .given) in
     let h = c .before .before .before .before .before .if1 .left in
     let n = first .ensures .next in
-    rw (lacks s room b h n (rw e at (c .if2 .taken))) (refl, e)
+    rw (lacks s room b h n (rw e at (c .if2 .taken))) (record { answer = refl; output = e })
 
 returns-3 : tie.Need-returns-3
 unfolding outcome leaves
@@ -46,8 +46,9 @@ returns-3 c =
     let n = first .ensures .next in
     let k = measured s room b h n in
     let m : first .result ≤ room = rw e at (c .before .before .before .before .if2 .left) in
-    let z : room ≤ top = omega arith in
-    rw (fits s room b h n m) (ap wrote k, (rw e at (c .before .before .put-listing2 .ensures .bytes)) z ∙ sets-front (listing s) (a .out .now) (omega arith))
+    let z : room ≤ MAX = omega arith in
+    rw (fits s room b h n m)
+    (record { answer = ap wrote k; output = (rw e at (c .before .before .put-listing2 .ensures .bytes)) z ∙ sets-front (listing s) (a .out .now) (omega arith) })
 
 pub list-spec : {M : Type 1} → statement M
 list-spec =

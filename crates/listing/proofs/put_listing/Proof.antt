@@ -7,7 +7,7 @@ use native.Mathlib.Omega.{arith}
 use lib.ListN.{length}
 use Rattle.form.specs.Listing.{listing}
 use Rattle.payload.proofs.Laws.{gotOf, elseOf}
-use Rattle.text.proofs.Writes.{Left, left-all, left-step, left-last}
+use Rattle.form.proofs.Puts.{Left, left-all, left-step, left-last}
 use Rattle.token.specs.Tokens.{valueOf, tokenAnswer}
 use Rattle.token.proofs.Walks.{token-read, token-refused}
 use Rattle.listing.specs.declared.tally.Tally.{Tally}

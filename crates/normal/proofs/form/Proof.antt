@@ -2,7 +2,7 @@
 use native.Mathlib.Omega.{arith}
 use mathlib.Core.Path.{sym, ap, _∙_}
 use Rattle.form.specs.Refusals as R
-use Rattle.form.specs.Refusals.{refusalNumber, refusalValues}
+use Rattle.form.specs.Refusals.{refusalValue, refusalValues}
 use Rattle.form.specs.Listing.{refusalWord, errorLine}
 use Rattle.form.proofs.LittleEndian.{bytes-all}
 use Rattle.normaliser.specs.Passes.{normalisedOutcome}
@@ -20,7 +20,7 @@ returns c =
     (sym (ap normalisedOutcome (c .before .n .given .1)) ∙ call .normalise .ensures .answer) (call .normalise .ensures .output)
 
 returns-2 : tie.Need-returns-2
-unfolding errorLine refusalWord refusalNumber refusalValues
+unfolding errorLine refusalWord refusalValue refusalValues
 returns-2 c =
     let told = c .before .before .before .before .before .before in
     let call = told .before .before .before .before in
@@ -31,7 +31,7 @@ returns-2 c =
     (omega arith) (c .before .before .put-error .ensures)
 
 returns-3 : tie.Need-returns-3
-unfolding errorLine refusalWord refusalNumber refusalValues
+unfolding errorLine refusalWord refusalValue refusalValues
 returns-3 c =
     let told = c .before .before .before .before .before .before in
     let call = told .before .before .before .before in
@@ -42,7 +42,7 @@ returns-3 c =
     (omega arith) (c .before .before .put-error2 .ensures)
 
 returns-4 : tie.Need-returns-4
-unfolding errorLine refusalWord refusalNumber refusalValues
+unfolding errorLine refusalWord refusalValue refusalValues
 returns-4 c =
     let told = c .before .before .before .before .before .before in
     let call = told .before .before .before .before in

@@ -14,13 +14,13 @@ returns : tie.Need-returns
 returns c =
     let a = c .before .before .before .args in
     let e : between (a .bytes .now) (a .start) (a .end) ≡ [] = ap (λ q. between (a .bytes .now) (a .start) q) (sym (c .if1 .taken)) ∙ between-none (a .bytes .now) (a .start) in
-    rw e (appends-none (now (a .out)) (a .need))
+    rw e (appends-none (now (a .out)) (a .need) (omega arith))
 
 returns-2 : tie.Need-returns-2
 returns-2 c =
     let k = c .before .before .before .before .before in
     let a = k .before .before .before .before .args in
-    appends (k .place .ensures) (c .before .before .copy .ensures) _ (omega (arith, between-length (a .bytes .now) (a .start) (a .end) (k .before .before .before .before .pre .1)))
+    appends (omega arith) (k .place .ensures) (c .before .before .copy .ensures .output) (omega (arith, between-length (a .bytes .now) (a .start) (a .end) (k .before .before .before .before .pre .1)))
 
 pub copy-run-spec : {M : Type 1} → statement M
 copy-run-spec =

@@ -16,7 +16,7 @@ abbrev μ-loop : tie.MeasureT-loop
 μ-loop bytes out₀ at₀ need₀ out at need = length bytes - at
 
 loop-holds : tie.Need-loop-holds Inv-loop μ-loop
-loop-holds c = going-start _ _
+loop-holds c = going-start _ _ (omega arith)
 
 standing-requires : tie.Need-standing-requires Inv-loop μ-loop
 standing-requires c κs = c .loop .inv .spells .there
@@ -69,10 +69,10 @@ copy-run-requires-3 : tie.Need-copy-run-requires-3 Inv-loop μ-loop
 copy-run-requires-3 c κs = run-there (c .before .before .before .before .before .loop .inv) (ran-otherwise (c .before .before .before .before .before .before .before .before .args .bytes .now) (c .before .before .before .before .before .loop .at) (c .before .before .before .before .standing .ensures) (c .before .before .run3 .given .1)) (c .before .before .before .before .before .before .before .before .pre)
 
 same-length : tie.Need-same-length Inv-loop μ-loop
-same-length c = went-on (c .before .before .before .before .before .before .before .before .before .loop .inv) (ran-otherwise (c .before .before .before .before .before .before .before .before .before .before .before .before .args .bytes .now) (c .before .before .before .before .before .before .before .before .before .loop .at) (c .before .before .before .before .before .before .before .before .standing .ensures) (c .before .before .before .before .before .before .run3 .given .1)) (c .before .before .before .copy-run3 .ensures) .same
+same-length c = went-on (c .before .before .before .before .before .before .before .before .before .loop .inv) (ran-otherwise (c .before .before .before .before .before .before .before .before .before .before .before .before .args .bytes .now) (c .before .before .before .before .before .before .before .before .before .loop .at) (c .before .before .before .before .before .before .before .before .standing .ensures) (c .before .before .before .before .before .before .run3 .given .1)) (c .before .before .before .copy-run3 .ensures) .appends .same
 
 returns : tie.Need-returns Inv-loop μ-loop
-returns c = going-end (went-on (c .before .before .before .before .before .before .before .before .before .loop .inv) (ran-otherwise (c .before .before .before .before .before .before .before .before .before .before .before .before .args .bytes .now) (c .before .before .before .before .before .before .before .before .before .loop .at) (c .before .before .before .before .before .before .before .before .standing .ensures) (c .before .before .before .before .before .before .run3 .given .1)) (c .before .before .before .copy-run3 .ensures)) (omega arith)
+returns c = going-end (omega arith) (went-on (c .before .before .before .before .before .before .before .before .before .loop .inv) (ran-otherwise (c .before .before .before .before .before .before .before .before .before .before .before .before .args .bytes .now) (c .before .before .before .before .before .before .before .before .before .loop .at) (c .before .before .before .before .before .before .before .before .standing .ensures) (c .before .before .before .before .before .before .run3 .given .1)) (c .before .before .before .copy-run3 .ensures)) (omega arith)
 
 respell-requires : tie.Need-respell-requires Inv-loop μ-loop
 respell-requires c κs =

@@ -10,7 +10,7 @@ returns : tie.Need-returns
 returns c =
     let k = c .before .before .before .before in
     let a = k .before .before .args in
-    appends (k .place .ensures) (c .before .before .write-number .ensures) _ (omega (arith, number-size (a .id .0) (a .width) (a .x)))
+    appends (omega arith) (k .place .ensures) (c .before .before .write-number .ensures .output) (omega (arith, number-size (a .id .0) (a .width) (a .x)))
 
 pub put-number-spec : {M : Type 1} → statement M
 put-number-spec =

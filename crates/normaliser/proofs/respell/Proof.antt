@@ -19,11 +19,11 @@ returns c =
 
 returns-2 : tie.Need-returns-2
 returns-2 c =
-    next-written _ (c .before .before .before .before .before .before .before .before .before .before .before .before .before .shared-slice-known .given) _ (gotOf tokenAnswer (c .before .before .before .before .before .before .before .before .before .before .before .read-token .ensures) (c .before .before .before .before .before .before .before .before .before .r .given .1)) (c .before .before .before .before .before .before .before .place .ensures) (c .before .before .before .before .before .write .ensures) (c .before .n .given .1)
+    next-written _ (c .before .before .before .before .before .before .before .before .before .before .before .before .before .shared-slice-known .given) _ (gotOf tokenAnswer (c .before .before .before .before .before .before .before .before .before .before .before .read-token .ensures) (c .before .before .before .before .before .before .before .before .before .r .given .1)) (omega arith) (c .before .before .before .before .before .before .before .place .ensures) (c .before .before .before .before .before .write .ensures) (c .before .n .given .1)
 
 returns-3 : tie.Need-returns-3
 returns-3 c =
-    next-counted _ (c .before .before .before .before .before .before .before .before .before .before .before .before .before .shared-slice-known .given) _ (gotOf tokenAnswer (c .before .before .before .before .before .before .before .before .before .before .before .read-token .ensures) (c .before .before .before .before .before .before .before .before .before .r .given .1)) (c .before .before .before .before .before .before .before .place .ensures) (c .before .before .before .before .before .write .ensures) (c .before .n2 .given .1)
+    next-counted _ (c .before .before .before .before .before .before .before .before .before .before .before .before .before .shared-slice-known .given) _ (gotOf tokenAnswer (c .before .before .before .before .before .before .before .before .before .before .before .read-token .ensures) (c .before .before .before .before .before .before .before .before .before .r .given .1)) (omega arith) (c .before .before .before .before .before .before .before .place .ensures) (c .before .before .before .before .before .write .ensures) (c .before .n2 .given .1)
 
 returns-4 : tie.Need-returns-4
 returns-4 c =

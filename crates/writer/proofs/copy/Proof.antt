@@ -22,7 +22,7 @@ returns-2 : tie.Need-returns-2
 returns-2 c =
     let k = c .before .before .before .before .before .before in
     let a = k .before .before .before .args in
-    stored (now (a .out)) (now (a .src)) (k .fit .result) refl (k .fit .ensures) (c .before .before .before .before .enum-told .given .1) (c .before .before .all .ensures)
+    stored (now (a .out)) (now (a .src)) (k .fit .result) refl (k .fit .ensures) (c .before .before .before .before .enum-told .given .1) (omega arith) (c .before .before .all .ensures)
 
 pub copy-spec : {M : Type 1} → statement M
 copy-spec =

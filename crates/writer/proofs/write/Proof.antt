@@ -6,7 +6,7 @@ use denote.Ref.{now}
 use native.Mathlib.Omega.{arith}
 use Rattle.form.specs.Writing.{outcome, leaves}
 use Rattle.writer.specs.Writes.{writeToken}
-use Rattle.writer.proofs.Stores.{put-front}
+use Rattle.form.proofs.Puts.{put-front}
 use Rattle.writer.proofs.Judging.{refused-leaves, written-fits}
 use Rattle.writer.proofs.write.Statement.{statement}
 use Rattle.writer.proofs.write.Tie as tie
@@ -35,7 +35,7 @@ returns-2 c =
     let f = written-fits (length (now (a .out))) (now (a .bytes)) (k .before .split .result) (k .judge .ensures) (c .before .before .before .before .enum-told .given .1) in
     record {
       answer = k .judge .ensures ∙ ap outcome w;
-      output = put-front (f .1) (c .before .before .parts .ensures) ∙ ap (λ o. leaves o (now (a .out))) (sym (f .0) ∙ w);
+      output = put-front (omega arith) (f .1) (c .before .before .parts .ensures) ∙ ap (λ o. leaves o (now (a .out))) (sym (f .0) ∙ w);
     }
 
 pub write-spec : {M : Type 1} → statement M

@@ -25,7 +25,7 @@ returns-2 c =
     let k = c .before .before .before .before .before .before in
     let a = k .before .before .args in
     stored (now (a .out)) (idNumber (a .id .0) (a .width) (a .x)) (k .fit .result) (number-size (a .id .0) (a .width) (a .x)) (k .fit .ensures)
-    (c .before .before .before .before .enum-told .given .1) (c .before .before .id-number .ensures)
+    (c .before .before .before .before .enum-told .given .1) (omega arith) (c .before .before .id-number .ensures)
 
 pub write-number-spec : {M : Type 1} → statement M
 write-number-spec =

@@ -2,6 +2,7 @@
 use Prim.Native.Nat.{_-_}
 use native.Mathlib.Omega.{arith}
 use mir.Syntax.{w32}
+use Rattle.form.specs.Numbers.{MAX}
 use Rattle.payload.proofs.Signed.{less-fits}
 use Rattle.capi.proofs.Ranges.{low, between, high}
 use borrow.Author.Needs.{needs}
@@ -15,7 +16,7 @@ returns-2 : tie.Need-returns-2
 returns-2 c = between _ (c .before .if1 .left) (c .if2 .taken)
 
 sub-high : tie.Need-sub-high
-sub-high c = less-fits w32 (18446744073709551615 - c .before .before .args .x) (omega arith)
+sub-high c = less-fits w32 (MAX - c .before .before .args .x) (omega arith)
 
 returns-3 : tie.Need-returns-3
 returns-3 c = high _ (c .if2 .left) (c .before .before .fits .x .fits)

@@ -9,7 +9,7 @@ use Rattle.capi.proofs.stepping.step_reply.Tie as tie
 
 returns : tie.Need-returns
 returns c =
-    rw (c .before .before .before .x .given .1) (c .answered .ensures ∙ ap (λ (m : ℕ). answered (c .before .before .before .x .given .0 .1 .0) (m ∷ [])) (c .before .kind-number .ensures))
+    rw (c .before .before .before .x .given .1) (c .answered .ensures ∙ ap (λ (m : ℕ). answered (c .before .before .before .x .given .0 .1 .0) (m ∷ [])) (c .before .number .ensures))
 
 returns-2 : tie.Need-returns-2
 returns-2 c = rw (c .before .enum-told .given .1) (c .absent .ensures)

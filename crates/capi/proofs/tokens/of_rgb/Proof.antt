@@ -7,8 +7,17 @@ use Rattle.capi.proofs.tokens.of_rgb.Tie as tie
 
 returns : tie.Need-returns
 unfolding kind valueOf
-returns c = cc
+returns c = rw (← c .before .before .before .before .before .alpha .ensures) (rw (c .before .before .before .before .number .ensures) at (c .long .ensures))
 
 pub of-rgb-spec : {M : Type 1} → statement M
 of-rgb-spec =
-    tie.close (tie.spec (λ c κs. search needs) (λ c. search needs) (λ c. search needs) (λ c. search needs) (λ c κs. search needs) returns)
+    tie.close
+    (tie.spec
+    (λ c κs. search needs)
+    (λ c κs. search needs)
+    (λ c. search needs)
+    (λ c. search needs)
+    (λ c. search needs)
+    (λ c. search needs)
+    (λ c κs. search needs)
+    returns)

@@ -10,8 +10,8 @@ returns c = (too-short _ _ (c .if1 .taken), rw (lt-leb 8 _ (c .if1 .taken)))
 
 returns-2 : tie.Need-returns-2
 returns-2 c = (
-  rw (← c .before .before .before .before .before .before .before .list .ensures .0, ← c .before .before .before .listed-reply .ensures) (c .before .before .store .ensures),
-  rw (le-leb 8 _ (c .before .before .before .before .before .before .before .before .before .if1 .left)) (c .before .before .before .before .before .before .before .list .ensures .1),
+  rw (← c .before .before .before .before .before .before .before .list .ensures .answer, ← c .before .before .before .listed-reply .ensures) (c .before .before .store .ensures),
+  rw (le-leb 8 _ (c .before .before .before .before .before .before .before .before .before .if1 .left)) (c .before .before .before .before .before .before .before .list .ensures .output),
 )
 
 pub stivlaheim-list-spec : {M : Type 1} → statement M

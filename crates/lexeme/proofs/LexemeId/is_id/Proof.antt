@@ -2,7 +2,6 @@
 -- Assumes nothing.
 use mathlib.Core.Path.{_≡_, refl, sym, ap, _∙_}
 use mathlib.Core.List.{[], _∷_}
-use lib.Dec.{eqb}
 use Rattle.form.proofs.Lookups.{arm}
 use Rattle.lexeme.proofs.Laws.{isId, id-plain}
 use borrow.Author.Needs.{needs}
@@ -33,10 +32,10 @@ tag-number Lookup = refl
 tag-number Id = refl
 
 returns : tie.Need-returns
-returns c = ap isId (sym (c .enum-told .given .1) ∙ c .before .before .into-kind .ensures) ∙ id-plain _
+returns c = ap (λ k. isId (kindNumber k)) (sym (c .enum-told .given .1)) ∙ ap isId (c .before .before .into-kind .ensures) ∙ id-plain _
 
 returns-2 : tie.Need-returns-2
-returns-2 c = sym (sym (id-plain _) ∙ ap isId (sym (c .before .into-kind .ensures)) ∙ ap (λ t. eqb t 14) (sym (tag-number (c .before .into-kind .result))) ∙ arm (λ t. eqb t 14) (0 ∷ 1 ∷ 2 ∷ 3 ∷ 4 ∷ 5 ∷ 6 ∷ 7 ∷ 8 ∷ 9 ∷ 10 ∷ 11 ∷ 12 ∷ 13 ∷ []) (refl, (refl, (refl, (refl, (refl, (refl, (refl, (refl, (refl, (refl, (refl, (refl, (refl, (refl, tt)))))))))))))) (c .match .keys2))
+returns-2 c = sym (sym (id-plain _) ∙ ap isId (sym (c .before .into-kind .ensures)) ∙ ap isId (sym (tag-number (c .before .into-kind .result))) ∙ arm isId (0 ∷ 1 ∷ 2 ∷ 3 ∷ 4 ∷ 5 ∷ 6 ∷ 7 ∷ 8 ∷ 9 ∷ 10 ∷ 11 ∷ 12 ∷ 13 ∷ []) (refl, (refl, (refl, (refl, (refl, (refl, (refl, (refl, (refl, (refl, (refl, (refl, (refl, (refl, tt)))))))))))))) (c .match .keys2))
 
 pub is-id-spec : {M : Type 1} → statement M
 is-id-spec = tie.close (tie.spec (λ c κs. search needs) (λ c. search needs) returns returns-2)

@@ -5,7 +5,7 @@ use Prim.Native.Nat.{_+_}
 use native.Mathlib.Omega.{arith}
 use lib.ListN.{length, take, drop, length-set}
 use lib.Seq.{sets}
-use Rattle.source.proofs.Stores.{part-step, part-done}
+use Rattle.form.proofs.Runs.{copy-step, copy-done}
 use Rattle.source.proofs.reads.put_part.Statement.{statement}
 use Rattle.source.proofs.reads.put_part.Tie as tie
 
@@ -29,7 +29,7 @@ loop-again c =
       omega arith,
       omega arith,
       simp length-set (l .inv .2),
-      part-step (l .out) _ (l .i) (l .j) (l .left) (c .before .loop-test .taken) (shared-slice-read-out c) ∙ l .inv .3,
+      copy-step (l .out) _ (l .i) (l .j) (l .left) (c .before .loop-test .taken) (shared-slice-read-out c) ∙ l .inv .3,
     )
 
 same-length : tie.Need-same-length Inv-loop μ-loop
@@ -38,7 +38,7 @@ same-length c = c .before .loop .inv .2
 returns : tie.Need-returns Inv-loop μ-loop
 returns c =
     let l = c .before .loop in
-    part-done (l .out) _ (l .i) (l .left) (c .loop-test .left) ∙ l .inv .3
+    copy-done (l .out) _ (l .i) (l .left) (c .loop-test .left) ∙ l .inv .3
 
 pub put-part-spec : {M : Type 1} → statement M
 put-part-spec =

@@ -5,7 +5,8 @@ use Prim.Native.Nat.{_+_}
 use native.Mathlib.Omega.{arith}
 use lib.ListN.{length, take, drop, length-set}
 use lib.Seq.{sets}
-use Rattle.source.proofs.Stores.{slide-step, part-done}
+use Rattle.form.proofs.Runs.{copy-done}
+use Rattle.source.proofs.Stores.{slide-step}
 use Rattle.source.proofs.reads.slide.Statement.{statement}
 use Rattle.source.proofs.reads.slide.Tie as tie
 
@@ -38,7 +39,7 @@ same-length c = c .before .loop .inv .2
 returns : tie.Need-returns Inv-loop μ-loop
 returns c =
     let l = c .before .loop in
-    part-done (l .buffer) _ (l .i) (l .left) (c .loop-test .left) ∙ l .inv .3
+    copy-done (l .buffer) _ (l .i) (l .left) (c .loop-test .left) ∙ l .inv .3
 
 pub slide-spec : {M : Type 1} → statement M
 slide-spec =

@@ -4,7 +4,7 @@ use native.Mathlib.Omega.{arith}
 use Rattle.form.specs.Spelling.{spelledAlpha}
 use Rattle.form.proofs.Lookups.{close-is}
 use Rattle.form.proofs.ReadsBack.{channel-length}
-use Rattle.writer.proofs.Stores.{put-then, put-length}
+use Rattle.form.proofs.Puts.{put-then}
 use Rattle.writer.proofs.Sizes.{end-size}
 use Rattle.writer.proofs.put.colour_end.Statement.{statement}
 use Rattle.writer.proofs.put.colour_end.Tie as tie
@@ -18,7 +18,7 @@ channel-requires : tie.Need-channel-requires
 channel-requires c κs = omega (arith, rw (c .before .before .a .given .1) at (c .before .before .before .before .before .pre), rw (c .before .before .a .given .1) at (end-size (c .before .before .before .before .before .args .a)))
 
 id-requires-2 : tie.Need-id-requires-2
-id-requires-2 c κs = omega (arith, rw (c .before .before .before .before .before .before .a .given .1) at (c .before .before .before .before .before .before .before .before .before .pre), rw (c .before .before .before .before .before .before .a .given .1) at (end-size (c .before .before .before .before .before .before .before .before .before .args .a)), c .before .before .before .channel .ensures .next, put-length (c .before .before .before .channel .ensures), channel-length (c .before .before .before .before .before .before .a .given .0 .0))
+id-requires-2 c κs = omega (arith, rw (c .before .before .before .before .before .before .a .given .1) at (c .before .before .before .before .before .before .before .before .before .pre), rw (c .before .before .before .before .before .before .a .given .1) at (end-size (c .before .before .before .before .before .before .before .before .before .args .a)), c .before .before .before .channel .ensures .next, c .before .before .before .channel .ensures .same, channel-length (c .before .before .before .before .before .before .a .given .0 .0))
 
 returns : tie.Need-returns
 unfolding spelledAlpha

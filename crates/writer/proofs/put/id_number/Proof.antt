@@ -2,14 +2,14 @@
 use borrow.Author.Needs.{needs}
 use native.Mathlib.Omega.{arith}
 use Rattle.form.proofs.LittleEndian.{length-bytes}
-use Rattle.writer.proofs.Stores.{put-then, put-length}
+use Rattle.form.proofs.Puts.{put-then}
 use Rattle.writer.proofs.put.id_number.Statement.{statement}
 use Rattle.writer.proofs.put.id_number.Tie as tie
 
 number-requires : tie.Need-number-requires
 number-requires c κs =
     let a = c .before .before .before .before .before .before .args in
-    omega (arith, c .before .before .before .id .ensures .next, put-length (c .before .before .before .id .ensures), length-bytes 2 (a .x .0))
+    omega (arith, c .before .before .before .id .ensures .next, c .before .before .before .id .ensures .same, length-bytes 2 (a .x .0))
 
 returns : tie.Need-returns
 returns c = put-then (c .before .before .before .before .before .before .id .ensures) (c .before .before .number .ensures)

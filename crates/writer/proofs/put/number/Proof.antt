@@ -34,7 +34,8 @@ returns c =
     let l = c .before .loop in
     record {
       next = omega (arith, length-bytes (c .before .before .args .width) (c .before .before .args .x));
-      bytes = number-done (l .out) (l .i) (l .left) (l .rest) (c .loop-test .left) ∙ l .inv .2;
+      same = l .inv .1;
+      bytes = λ _. number-done (l .out) (l .i) (l .left) (l .rest) (c .loop-test .left) ∙ l .inv .2;
     }
 
 pub number-spec : {M : Type 1} → statement M
