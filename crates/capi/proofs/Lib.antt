@@ -1,4 +1,4 @@
-pub mod Laws
+pub mod LentLists
 pub mod Counts
 pub mod Unique
 pub mod Ranges

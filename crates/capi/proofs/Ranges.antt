@@ -17,7 +17,7 @@ use types.Run.{OneOf}
 use Rattle.form.specs.Numbers.{MAX}
 use Rattle.payload.proofs.Signed.{high-half}
 use Rattle.token.specs.declared.Token.the-variants as T
-use Rattle.capi.specs.Given.{smallToken, kindTokens, kindToken}
+use Rattle.capi.specs.Offered.{smallToken, kindTokens, kindToken}
 
 module _ (x : ℕ) where
   pub low : x < 2147483648 → some (T.I32 (toZ w32 x)) ≡ smallToken (toZ w64 x)

@@ -7,8 +7,8 @@ use lib.ListN.{length}
 use borrow.Author.Tests.{lt-leb}
 use Rattle.token.specs.declared.Token.{Token}
 use Rattle.capi.specs.Replies.{SHORT_ANSWER, returned}
-use Rattle.capi.specs.Given.{writeReturns, writeLeaves}
-use Rattle.capi.proofs.Laws.{too-short}
+use Rattle.capi.specs.Offered.{writeReturns, writeLeaves}
+use Rattle.capi.proofs.LentLists.{too-short}
 
 module _ (s l : List ℕ) (h : length l < 8) where
   pub short-returns : (room : ℕ) (o : Option Token) → returned SHORT_ANSWER l ≡ writeReturns room s l o

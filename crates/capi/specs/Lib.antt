@@ -1,9 +1,9 @@
 pub mod Replies
 pub mod Words
 pub mod Code
-pub mod Parts
+pub mod PartReplies
 pub mod Counting
 pub mod Outputs
-pub mod Given
+pub mod Offered
 pub mod Steps
 pub mod Sources

@@ -8,7 +8,7 @@ use Rattle.form.specs.Numbers.{pick}
 use Rattle.form.specs.Refusals.{Refusal, refusalNumber, refusalValues}
 use Rattle.form.specs.Calls.{Cursor, Call, gives, refuses}
 
--- ---- the numbers, beside those of the paper's refusals
+-- ---- the numbers, beside those of the refusals
 
 abbrev pub ANSWERED : ℕ
 ANSWERED = 0
@@ -41,7 +41,7 @@ reply k p ws = record { code = k; words = p ∷ padded 7 ws }
 abbrev pub answered : ℕ → List ℕ → Reply
 answered p ws = reply ANSWERED p ws
 
--- a refusal has the paper's number
+-- a refusal has its own number
 abbrev pub refused : ℕ → Refusal → Reply
 refused p r = reply (refusalNumber r) p (refusalValues r)
 

@@ -8,12 +8,12 @@ use Rattle.form.specs.Spelling.{bit}
 use Rattle.form.specs.Calls as F
 use Rattle.payload.specs.declared.answers.Text.{Text}
 use Rattle.source.specs.declared.ParserSource.{ParserSource}
-use Rattle.source.specs.Window.{Step, gives, refuses, Call, andThen, textAt, windowLen}
+use Rattle.source.specs.Window.{Drawn, drawn, halted, Draw, drawnThen, textAt, windowLen}
 use Rattle.capi.specs.Replies.{ANSWERED, SHORT_ANSWER, BAD_ARGUMENT, Reply, cursor, Returned, returned, into}
 use Rattle.capi.specs.Code.{asReply}
 use Rattle.capi.specs.declared.states.Asked.{Asked}
 use Rattle.capi.specs.declared.states.Asked.the-variants.{State, Bad}
-use Rattle.capi.specs.declared.left.Left as C
+use Rattle.capi.specs.declared.source_replies.SourceReply as C
 
 -- ---- the state
 
@@ -53,53 +53,53 @@ begun s l = pick (leb 6 (length l)) (returned ANSWERED (withState s l)) (returne
 -- ---- a call
 
 -- what a call leaves: its reply, the state and the buffer
-pub record Left : Type 0 where
+pub record SourceReply : Type 0 where
   pub reply : Reply
   pub next : ParserSource
   pub buffer : List ℕ
 
-abbrev pub leaves : Reply → ParserSource → List ℕ → Left
-leaves r s buffer = record { reply = r; next = s; buffer = buffer }
+abbrev pub sourceReply : Reply → ParserSource → List ℕ → SourceReply
+sourceReply r s buffer = record { reply = r; next = s; buffer = buffer }
 
 -- what the code's stands for, with the buffer
-abbrev pub leftOf : C.Left → List ℕ → Left
-leftOf x buffer = leaves (asReply (x .reply)) (x .next) buffer
+abbrev pub sourceReplyOf : C.SourceReply → List ℕ → SourceReply
+sourceReplyOf x buffer = sourceReply (asReply (x .reply)) (x .next) buffer
 
 -- by the reply to what is answered, with the position for a cursor
-abbrev pub leftAt : {A : Type 0} → (F.Call A → Reply) → Step A → Left
-leftAt reply (gives a s buffer) = leaves (reply (F.gives a (cursor (s .position)))) s buffer
-leftAt reply (refuses r s buffer) = leaves (reply (F.refuses r (cursor (s .position)))) s buffer
+abbrev pub sourceReplyAt : {A : Type 0} → (F.Call A → Reply) → Drawn A → SourceReply
+sourceReplyAt reply (drawn a s buffer) = sourceReply (reply (F.gives a (cursor (s .position)))) s buffer
+sourceReplyAt reply (halted r s buffer) = sourceReply (reply (F.refuses r (cursor (s .position)))) s buffer
 
 -- from a buffer
-abbrev pub left : {A : Type 0} → (F.Call A → Reply) → (List ℕ → Step A) → List ℕ → Left
-left reply f buffer = leftAt reply (f buffer)
+abbrev pub sourceReplyTo : {A : Type 0} → (F.Call A → Reply) → (List ℕ → Drawn A) → List ℕ → SourceReply
+sourceReplyTo reply f buffer = sourceReplyAt reply (f buffer)
 
 -- what the caller has then: the number returned with the answer list, the list of the state and the buffer
-pub record After : Type 0 where
+pub record Caller : Type 0 where
   pub answer : Returned
   pub state : List ℕ
   pub buffer : List ℕ
 
-abbrev pub after : Returned → List ℕ → List ℕ → After
-after r state buffer = record { answer = r; state = state; buffer = buffer }
+abbrev pub callerHas : Returned → List ℕ → List ℕ → Caller
+callerHas r state buffer = record { answer = r; state = state; buffer = buffer }
 
-abbrev pub handed : List ℕ → List ℕ → Left → After
-handed answer state x = after (into answer (x .reply)) (withState (x .next) state) (x .buffer)
+abbrev pub handed : List ℕ → List ℕ → SourceReply → Caller
+handed answer state x = callerHas (into answer (x .reply)) (withState (x .next) state) (x .buffer)
 
 -- any call, by the reply to what it answers; where no state is handed over nothing is changed
-module _ {A : Type 0} (reply : F.Call A → Reply) (call : Call A) (answer state buffer : List ℕ) where
-  unfoldable pub calledFrom : Asked → After
-  calledFrom (State s) = handed answer state (left reply (call s) buffer)
-  calledFrom (Bad k) = after (returned k answer) state buffer
+module _ {A : Type 0} (reply : F.Call A → Reply) (call : Draw A) (answer state buffer : List ℕ) where
+  unfoldable pub calledFrom : Asked → Caller
+  calledFrom (State s) = handed answer state (sourceReplyTo reply (call s) buffer)
+  calledFrom (Bad k) = callerHas (returned k answer) state buffer
 
-  unfoldable pub called : After
+  unfoldable pub called : Caller
   called = calledFrom (asked answer state)
 
 -- ---- `window`
 
 -- as many bytes as are unread, from where they start
-abbrev pub partOf : Step ℕ → Step Text
-partOf x = andThen x (λ n s buffer. gives (textAt (s .start) n) s buffer)
+abbrev pub asPart : Drawn ℕ → Drawn Text
+asPart x = drawnThen x (λ n s buffer. drawn (textAt (s .start) n) s buffer)
 
-unfoldable pub windowPart : List ℕ → List ℕ → Call Text
-windowPart supply schedule s buffer = partOf (windowLen supply schedule s buffer)
+unfoldable pub windowPart : List ℕ → List ℕ → Draw Text
+windowPart supply schedule s buffer = asPart (windowLen supply schedule s buffer)

@@ -5,7 +5,7 @@ ghost use mir.Val.{ofZ};
 use payload::bits::of_i64;
 
 // Two's complement.
-pub(crate) fn of_i32(x: i32) -> u64
+pub(crate) fn widened_i32(x: i32) -> u64
     ensures { λ r. ⌜ r ≡ ofZ w64 x ⌝ }
 {
     of_i64(x as i64)

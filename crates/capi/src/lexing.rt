@@ -8,7 +8,7 @@ ghost use Rattle.token.specs.Tokens.{tokenAt};
 ghost use Rattle.lexer.specs.Calls.{boolAt, i32At, i64At, stringAt, bytesAt, remainderOf};
 ghost use Rattle.capi.specs.Replies.{cursor, replyOf, replyOrNone, returned, into};
 ghost use Rattle.capi.specs.Words.{noWords, numberWords, boolWords, signedWords, textWords, colourWords, tokenWords};
-use crate::answers;
+use crate::lexer_replies;
 use crate::replies;
 use lexeme::LexemeId;
 use lexer::Lexer;
@@ -19,7 +19,7 @@ pub extern "C" fn stivlaheim_read_id(bytes: &[u8], at: usize, answer: &mut [u64]
     ensures { λ r. ⌜ returned r (now (answer .exit)) ≡ into (now (answer .entry)) (replyOf numberWords (reads (readAt (num 2)) (now (bytes .entry)) (cursor at))) ⌝ }
 {
     let c = Lexer { at };
-    replies::store(answer, answers::of_id(c, c.read_id(bytes)))
+    replies::store(answer, lexer_replies::of_id(c, c.read_id(bytes)))
 }
 
 // The next id; none at the end.
@@ -28,7 +28,7 @@ pub extern "C" fn stivlaheim_next_id(bytes: &[u8], at: usize, answer: &mut [u64]
     ensures { λ r. ⌜ returned r (now (answer .exit)) ≡ into (now (answer .entry)) (replyOrNone numberWords (nexts (readAt (num 2)) (now (bytes .entry)) (cursor at))) ⌝ }
 {
     let c = Lexer { at };
-    replies::store(answer, answers::of_next_id(c, c.next_id(bytes)))
+    replies::store(answer, lexer_replies::of_next_id(c, c.next_id(bytes)))
 }
 
 // The next id, with the cursor left where it is; none where it is refused.
@@ -37,7 +37,7 @@ pub extern "C" fn stivlaheim_peek_id(bytes: &[u8], at: usize, answer: &mut [u64]
     ensures { λ r. ⌜ returned r (now (answer .exit)) ≡ into (now (answer .entry)) (replyOrNone numberWords (peeks (readAt (num 2)) (now (bytes .entry)) (cursor at))) ⌝ }
 {
     let c = Lexer { at };
-    replies::store(answer, answers::of_peek_id(c, c.peek_id(bytes)))
+    replies::store(answer, lexer_replies::of_peek_id(c, c.peek_id(bytes)))
 }
 
 // A token: an id and its payload.
@@ -46,7 +46,7 @@ pub extern "C" fn stivlaheim_read_token(bytes: &[u8], at: usize, answer: &mut [u
     ensures { λ r. ⌜ returned r (now (answer .exit)) ≡ into (now (answer .entry)) (replyOf tokenWords (reads tokenAt (now (bytes .entry)) (cursor at))) ⌝ }
 {
     let c = Lexer { at };
-    replies::store(answer, answers::of_token(c, c.read_token(bytes)))
+    replies::store(answer, lexer_replies::of_token(c, c.read_token(bytes)))
 }
 
 // The next token; none at the end.
@@ -55,7 +55,7 @@ pub extern "C" fn stivlaheim_next_token(bytes: &[u8], at: usize, answer: &mut [u
     ensures { λ r. ⌜ returned r (now (answer .exit)) ≡ into (now (answer .entry)) (replyOrNone tokenWords (nexts tokenAt (now (bytes .entry)) (cursor at))) ⌝ }
 {
     let c = Lexer { at };
-    replies::store(answer, answers::of_next_token(c, c.next_token(bytes)))
+    replies::store(answer, lexer_replies::of_next_token(c, c.next_token(bytes)))
 }
 
 // The next token, with the cursor left where it is; none where it is refused.
@@ -64,7 +64,7 @@ pub extern "C" fn stivlaheim_peek_token(bytes: &[u8], at: usize, answer: &mut [u
     ensures { λ r. ⌜ returned r (now (answer .exit)) ≡ into (now (answer .entry)) (replyOrNone tokenWords (peeks tokenAt (now (bytes .entry)) (cursor at))) ⌝ }
 {
     let c = Lexer { at };
-    replies::store(answer, answers::of_peek_token(c, c.peek_token(bytes)))
+    replies::store(answer, lexer_replies::of_peek_token(c, c.peek_token(bytes)))
 }
 
 // A string, after its id: the part that holds its text.
@@ -73,7 +73,7 @@ pub extern "C" fn stivlaheim_read_string(bytes: &[u8], at: usize, answer: &mut [
     ensures { λ r. ⌜ returned r (now (answer .exit)) ≡ into (now (answer .entry)) (replyOf textWords (reads stringAt (now (bytes .entry)) (cursor at))) ⌝ }
 {
     let c = Lexer { at };
-    replies::store(answer, answers::of_string(c, c.read_string(bytes)))
+    replies::store(answer, lexer_replies::of_string(c, c.read_string(bytes)))
 }
 
 // A bool: one byte, true where it is not zero.
@@ -82,7 +82,7 @@ pub extern "C" fn stivlaheim_read_bool(bytes: &[u8], at: usize, answer: &mut [u6
     ensures { λ r. ⌜ returned r (now (answer .exit)) ≡ into (now (answer .entry)) (replyOf boolWords (reads boolAt (now (bytes .entry)) (cursor at))) ⌝ }
 {
     let c = Lexer { at };
-    replies::store(answer, answers::of_bool(c, c.read_bool(bytes)))
+    replies::store(answer, lexer_replies::of_bool(c, c.read_bool(bytes)))
 }
 
 // A lookup of one byte.
@@ -91,7 +91,7 @@ pub extern "C" fn stivlaheim_read_lookup_u8(bytes: &[u8], at: usize, answer: &mu
     ensures { λ r. ⌜ returned r (now (answer .exit)) ≡ into (now (answer .entry)) (replyOf numberWords (reads (readAt (num 1)) (now (bytes .entry)) (cursor at))) ⌝ }
 {
     let c = Lexer { at };
-    replies::store(answer, answers::of_u8(c, c.read_lookup_u8(bytes)))
+    replies::store(answer, lexer_replies::of_u8(c, c.read_lookup_u8(bytes)))
 }
 
 // A lookup of two bytes.
@@ -100,7 +100,7 @@ pub extern "C" fn stivlaheim_read_lookup_u16(bytes: &[u8], at: usize, answer: &m
     ensures { λ r. ⌜ returned r (now (answer .exit)) ≡ into (now (answer .entry)) (replyOf numberWords (reads (readAt (num 2)) (now (bytes .entry)) (cursor at))) ⌝ }
 {
     let c = Lexer { at };
-    replies::store(answer, answers::of_u16(c, c.read_lookup_u16(bytes)))
+    replies::store(answer, lexer_replies::of_u16(c, c.read_lookup_u16(bytes)))
 }
 
 // A lookup of three bytes.
@@ -109,7 +109,7 @@ pub extern "C" fn stivlaheim_read_lookup_u24(bytes: &[u8], at: usize, answer: &m
     ensures { λ r. ⌜ returned r (now (answer .exit)) ≡ into (now (answer .entry)) (replyOf numberWords (reads (readAt (num 3)) (now (bytes .entry)) (cursor at))) ⌝ }
 {
     let c = Lexer { at };
-    replies::store(answer, answers::of_u32(c, c.read_lookup_u24(bytes)))
+    replies::store(answer, lexer_replies::of_u32(c, c.read_lookup_u24(bytes)))
 }
 
 // A lookup of four bytes.
@@ -118,7 +118,7 @@ pub extern "C" fn stivlaheim_read_lookup_u32(bytes: &[u8], at: usize, answer: &m
     ensures { λ r. ⌜ returned r (now (answer .exit)) ≡ into (now (answer .entry)) (replyOf numberWords (reads (readAt (num 4)) (now (bytes .entry)) (cursor at))) ⌝ }
 {
     let c = Lexer { at };
-    replies::store(answer, answers::of_u32(c, c.read_lookup_u32(bytes)))
+    replies::store(answer, lexer_replies::of_u32(c, c.read_lookup_u32(bytes)))
 }
 
 // An unsigned number of four bytes.
@@ -127,7 +127,7 @@ pub extern "C" fn stivlaheim_read_u32(bytes: &[u8], at: usize, answer: &mut [u64
     ensures { λ r. ⌜ returned r (now (answer .exit)) ≡ into (now (answer .entry)) (replyOf numberWords (reads (readAt (num 4)) (now (bytes .entry)) (cursor at))) ⌝ }
 {
     let c = Lexer { at };
-    replies::store(answer, answers::of_u32(c, c.read_u32(bytes)))
+    replies::store(answer, lexer_replies::of_u32(c, c.read_u32(bytes)))
 }
 
 // An unsigned number of eight bytes.
@@ -136,7 +136,7 @@ pub extern "C" fn stivlaheim_read_u64(bytes: &[u8], at: usize, answer: &mut [u64
     ensures { λ r. ⌜ returned r (now (answer .exit)) ≡ into (now (answer .entry)) (replyOf numberWords (reads (readAt (num 8)) (now (bytes .entry)) (cursor at))) ⌝ }
 {
     let c = Lexer { at };
-    replies::store(answer, answers::of_u64(c, c.read_u64(bytes)))
+    replies::store(answer, lexer_replies::of_u64(c, c.read_u64(bytes)))
 }
 
 // A signed number of four bytes, as the bits of one of eight.
@@ -145,7 +145,7 @@ pub extern "C" fn stivlaheim_read_i32(bytes: &[u8], at: usize, answer: &mut [u64
     ensures { λ r. ⌜ returned r (now (answer .exit)) ≡ into (now (answer .entry)) (replyOf signedWords (reads i32At (now (bytes .entry)) (cursor at))) ⌝ }
 {
     let c = Lexer { at };
-    replies::store(answer, answers::of_i32(c, c.read_i32(bytes)))
+    replies::store(answer, lexer_replies::of_i32(c, c.read_i32(bytes)))
 }
 
 // A signed number of eight bytes, as its bits.
@@ -154,7 +154,7 @@ pub extern "C" fn stivlaheim_read_i64(bytes: &[u8], at: usize, answer: &mut [u64
     ensures { λ r. ⌜ returned r (now (answer .exit)) ≡ into (now (answer .entry)) (replyOf signedWords (reads i64At (now (bytes .entry)) (cursor at))) ⌝ }
 {
     let c = Lexer { at };
-    replies::store(answer, answers::of_i64(c, c.read_i64(bytes)))
+    replies::store(answer, lexer_replies::of_i64(c, c.read_i64(bytes)))
 }
 
 // The number that the four bytes of a float spell.
@@ -163,7 +163,7 @@ pub extern "C" fn stivlaheim_read_f32(bytes: &[u8], at: usize, answer: &mut [u64
     ensures { λ r. ⌜ returned r (now (answer .exit)) ≡ into (now (answer .entry)) (replyOf numberWords (reads (readAt (num 4)) (now (bytes .entry)) (cursor at))) ⌝ }
 {
     let c = Lexer { at };
-    replies::store(answer, answers::of_u32(c, c.read_f32(bytes)))
+    replies::store(answer, lexer_replies::of_u32(c, c.read_f32(bytes)))
 }
 
 // The number that the eight bytes of a float spell.
@@ -172,7 +172,7 @@ pub extern "C" fn stivlaheim_read_f64(bytes: &[u8], at: usize, answer: &mut [u64
     ensures { λ r. ⌜ returned r (now (answer .exit)) ≡ into (now (answer .entry)) (replyOf numberWords (reads (readAt (num 8)) (now (bytes .entry)) (cursor at))) ⌝ }
 {
     let c = Lexer { at };
-    replies::store(answer, answers::of_u64(c, c.read_f64(bytes)))
+    replies::store(answer, lexer_replies::of_u64(c, c.read_f64(bytes)))
 }
 
 // A colour, after its id.
@@ -181,7 +181,7 @@ pub extern "C" fn stivlaheim_read_rgb(bytes: &[u8], at: usize, answer: &mut [u64
     ensures { λ r. ⌜ returned r (now (answer .exit)) ≡ into (now (answer .entry)) (replyOf colourWords (reads (readAt rgb) (now (bytes .entry)) (cursor at))) ⌝ }
 {
     let c = Lexer { at };
-    replies::store(answer, answers::of_rgb(c, c.read_rgb(bytes)))
+    replies::store(answer, lexer_replies::of_rgb(c, c.read_rgb(bytes)))
 }
 
 // The part that is left.
@@ -190,7 +190,7 @@ pub extern "C" fn stivlaheim_remainder(bytes: &[u8], at: usize, answer: &mut [u6
     ensures { λ r. ⌜ returned r (now (answer .exit)) ≡ into (now (answer .entry)) (replyOf textWords (remainderOf (now (bytes .entry)) (cursor at))) ⌝ }
 {
     let c = Lexer { at };
-    replies::store(answer, answers::of_string(c, c.remainder(bytes)))
+    replies::store(answer, lexer_replies::of_string(c, c.remainder(bytes)))
 }
 
 // The part that is the next bytes, so many.
@@ -204,7 +204,10 @@ pub extern "C" fn stivlaheim_read_bytes(
     ensures { λ r. ⌜ returned r (now (answer .exit)) ≡ into (now (answer .entry)) (replyOf textWords (reads (bytesAt count) (now (bytes .entry)) (cursor at))) ⌝ }
 {
     let c = Lexer { at };
-    replies::store(answer, answers::of_string(c, c.read_bytes(bytes, count)))
+    replies::store(
+        answer,
+        lexer_replies::of_string(c, c.read_bytes(bytes, count)),
+    )
 }
 
 // From inside a container to the place after its end.
@@ -213,7 +216,7 @@ pub extern "C" fn stivlaheim_skip_container(bytes: &[u8], at: usize, answer: &mu
     ensures { λ r. ⌜ returned r (now (answer .exit)) ≡ into (now (answer .entry)) (replyOf noWords (skips skipContainer (now (bytes .entry)) (cursor at))) ⌝ }
 {
     let c = Lexer { at };
-    replies::store(answer, answers::of_skip(c.skip_container(bytes)))
+    replies::store(answer, lexer_replies::of_skip(c.skip_container(bytes)))
 }
 
 // Past the value whose id was read just before the cursor.
@@ -222,5 +225,8 @@ pub extern "C" fn stivlaheim_skip_value(bytes: &[u8], at: usize, id: u16, answer
     ensures { λ r. ⌜ returned r (now (answer .exit)) ≡ into (now (answer .entry)) (replyOf noWords (skips (skipValue id) (now (bytes .entry)) (cursor at))) ⌝ }
 {
     let c = Lexer { at };
-    replies::store(answer, answers::of_skip(c.skip_value(bytes, LexemeId(id))))
+    replies::store(
+        answer,
+        lexer_replies::of_skip(c.skip_value(bytes, LexemeId(id))),
+    )
 }

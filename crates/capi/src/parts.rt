@@ -4,7 +4,7 @@ ghost use Rattle.split.specs.Splits.{splitAt};
 ghost use Rattle.token.specs.Texts.{placeOf};
 ghost use Rattle.capi.specs.Replies.{returned, into};
 ghost use Rattle.capi.specs.Code.{asReply};
-ghost use Rattle.capi.specs.Parts.{splitReply, textReply};
+ghost use Rattle.capi.specs.PartReplies.{splitReply, textReply};
 use crate::replies;
 use crate::replies::Reply;
 use lexer::Refusal;

@@ -3,8 +3,8 @@ ghost use mathlib.Core.Path.{_≡_};
 ghost use Rattle.source.specs.Binary.{id, peekedId, string, colour};
 ghost use Rattle.capi.specs.Replies.{returned, replyOf, replyOrNone};
 ghost use Rattle.capi.specs.Words.{numberWords, textWords, colourWords};
-ghost use Rattle.capi.specs.Sources.{after, called};
-use crate::left;
+ghost use Rattle.capi.specs.Sources.{callerHas, called};
+use crate::source_replies;
 use crate::states;
 use crate::states::Asked;
 
@@ -17,14 +17,14 @@ pub extern "C" fn stivlaheim_source_read_bstr(
     state: &mut [u64],
     answer: &mut [u64],
 ) -> u32
-    ensures { λ r. ⌜ after (returned r (now (answer .exit))) (now (state .exit)) (now (buffer .exit)) ≡ called (replyOf textWords) (string (now (supply .entry)) (now (schedule .entry))) (now (answer .entry)) (now (state .entry)) (now (buffer .entry)) ⌝ }
+    ensures { λ r. ⌜ callerHas (returned r (now (answer .exit))) (now (state .exit)) (now (buffer .exit)) ≡ called (replyOf textWords) (string (now (supply .entry)) (now (schedule .entry))) (now (answer .entry)) (now (state .entry)) (now (buffer .entry)) ⌝ }
 {
     let a = states::ask(state, answer);
     let Asked::State(s) = a else {
         return a.number();
     };
     let x = s.read_bstr(buffer, supply, schedule);
-    left::hand_over(left::of_taken(x), state, answer)
+    source_replies::hand_over(source_replies::of_taken(x), state, answer)
 }
 
 // The next two bytes as an id.
@@ -36,14 +36,14 @@ pub extern "C" fn stivlaheim_source_read_lexeme_id(
     state: &mut [u64],
     answer: &mut [u64],
 ) -> u32
-    ensures { λ r. ⌜ after (returned r (now (answer .exit))) (now (state .exit)) (now (buffer .exit)) ≡ called (replyOf numberWords) (id (now (supply .entry)) (now (schedule .entry))) (now (answer .entry)) (now (state .entry)) (now (buffer .entry)) ⌝ }
+    ensures { λ r. ⌜ callerHas (returned r (now (answer .exit))) (now (state .exit)) (now (buffer .exit)) ≡ called (replyOf numberWords) (id (now (supply .entry)) (now (schedule .entry))) (now (answer .entry)) (now (state .entry)) (now (buffer .entry)) ⌝ }
 {
     let a = states::ask(state, answer);
     let Asked::State(s) = a else {
         return a.number();
     };
     let x = s.read_lexeme_id(buffer, supply, schedule);
-    left::hand_over(left::of_id(x), state, answer)
+    source_replies::hand_over(source_replies::of_id(x), state, answer)
 }
 
 // The next two bytes as an id, unread; none at the end.
@@ -55,14 +55,14 @@ pub extern "C" fn stivlaheim_source_peek_lexeme_id(
     state: &mut [u64],
     answer: &mut [u64],
 ) -> u32
-    ensures { λ r. ⌜ after (returned r (now (answer .exit))) (now (state .exit)) (now (buffer .exit)) ≡ called (replyOrNone numberWords) (peekedId (now (supply .entry)) (now (schedule .entry))) (now (answer .entry)) (now (state .entry)) (now (buffer .entry)) ⌝ }
+    ensures { λ r. ⌜ callerHas (returned r (now (answer .exit))) (now (state .exit)) (now (buffer .exit)) ≡ called (replyOrNone numberWords) (peekedId (now (supply .entry)) (now (schedule .entry))) (now (answer .entry)) (now (state .entry)) (now (buffer .entry)) ⌝ }
 {
     let a = states::ask(state, answer);
     let Asked::State(s) = a else {
         return a.number();
     };
     let x = s.peek_lexeme_id(buffer, supply, schedule);
-    left::hand_over(left::of_peeked_id(x), state, answer)
+    source_replies::hand_over(source_replies::of_peeked_id(x), state, answer)
 }
 
 // A colour, after its id.
@@ -74,12 +74,12 @@ pub extern "C" fn stivlaheim_source_read_rgb(
     state: &mut [u64],
     answer: &mut [u64],
 ) -> u32
-    ensures { λ r. ⌜ after (returned r (now (answer .exit))) (now (state .exit)) (now (buffer .exit)) ≡ called (replyOf colourWords) (colour (now (supply .entry)) (now (schedule .entry))) (now (answer .entry)) (now (state .entry)) (now (buffer .entry)) ⌝ }
+    ensures { λ r. ⌜ callerHas (returned r (now (answer .exit))) (now (state .exit)) (now (buffer .exit)) ≡ called (replyOf colourWords) (colour (now (supply .entry)) (now (schedule .entry))) (now (answer .entry)) (now (state .entry)) (now (buffer .entry)) ⌝ }
 {
     let a = states::ask(state, answer);
     let Asked::State(s) = a else {
         return a.number();
     };
     let x = s.read_rgb(buffer, supply, schedule);
-    left::hand_over(left::of_rgb(x), state, answer)
+    source_replies::hand_over(source_replies::of_rgb(x), state, answer)
 }

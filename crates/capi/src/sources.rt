@@ -4,8 +4,8 @@ ghost use lib.ListN.{length};
 ghost use Rattle.source.specs.Window.{newSlice, newStream, ensured, refilled, advanced, windowLen, taken, tried, peeked};
 ghost use Rattle.capi.specs.Replies.{returned, replyOf, replyOrNone};
 ghost use Rattle.capi.specs.Words.{noWords, numberWords, boolWords, textWords};
-ghost use Rattle.capi.specs.Sources.{begun, after, called, windowPart};
-use crate::left;
+ghost use Rattle.capi.specs.Sources.{begun, callerHas, called, windowPart};
+use crate::source_replies;
 use crate::states;
 use crate::states::Asked;
 use source::ParserSource;
@@ -36,14 +36,14 @@ pub extern "C" fn stivlaheim_source_ensure_bytes(
     count: usize,
     answer: &mut [u64],
 ) -> u32
-    ensures { λ r. ⌜ after (returned r (now (answer .exit))) (now (state .exit)) (now (buffer .exit)) ≡ called (replyOf noWords) (ensured (now (supply .entry)) (now (schedule .entry)) count) (now (answer .entry)) (now (state .entry)) (now (buffer .entry)) ⌝ }
+    ensures { λ r. ⌜ callerHas (returned r (now (answer .exit))) (now (state .exit)) (now (buffer .exit)) ≡ called (replyOf noWords) (ensured (now (supply .entry)) (now (schedule .entry)) count) (now (answer .entry)) (now (state .entry)) (now (buffer .entry)) ⌝ }
 {
     let a = states::ask(state, answer);
     let Asked::State(s) = a else {
         return a.number();
     };
     let x = s.ensure_bytes(count, buffer, supply, schedule);
-    left::hand_over(left::of_ensured(x), state, answer)
+    source_replies::hand_over(source_replies::of_ensured(x), state, answer)
 }
 
 // One read, behind the unread bytes: how many bytes came.
@@ -55,14 +55,14 @@ pub extern "C" fn stivlaheim_source_refill(
     state: &mut [u64],
     answer: &mut [u64],
 ) -> u32
-    ensures { λ r. ⌜ after (returned r (now (answer .exit))) (now (state .exit)) (now (buffer .exit)) ≡ called (replyOf numberWords) (refilled (now (supply .entry)) (now (schedule .entry))) (now (answer .entry)) (now (state .entry)) (now (buffer .entry)) ⌝ }
+    ensures { λ r. ⌜ callerHas (returned r (now (answer .exit))) (now (state .exit)) (now (buffer .exit)) ≡ called (replyOf numberWords) (refilled (now (supply .entry)) (now (schedule .entry))) (now (answer .entry)) (now (state .entry)) (now (buffer .entry)) ⌝ }
 {
     let a = states::ask(state, answer);
     let Asked::State(s) = a else {
         return a.number();
     };
     let x = s.refill(buffer, supply, schedule);
-    left::hand_over(left::of_refilled(x), state, answer)
+    source_replies::hand_over(source_replies::of_refilled(x), state, answer)
 }
 
 // Reads so many of the unread bytes; none where there are fewer.
@@ -75,14 +75,14 @@ pub extern "C" fn stivlaheim_source_advance(
     count: usize,
     answer: &mut [u64],
 ) -> u32
-    ensures { λ r. ⌜ after (returned r (now (answer .exit))) (now (state .exit)) (now (buffer .entry)) ≡ called (replyOf boolWords) (advanced (now (supply .entry)) (now (schedule .entry)) count) (now (answer .entry)) (now (state .entry)) (now (buffer .entry)) ⌝ }
+    ensures { λ r. ⌜ callerHas (returned r (now (answer .exit))) (now (state .exit)) (now (buffer .entry)) ≡ called (replyOf boolWords) (advanced (now (supply .entry)) (now (schedule .entry)) count) (now (answer .entry)) (now (state .entry)) (now (buffer .entry)) ⌝ }
 {
     let a = states::ask(state, answer);
     let Asked::State(s) = a else {
         return a.number();
     };
     let x = s.advance(count, buffer, supply, schedule);
-    left::hand_over(left::of_advanced(x), state, answer)
+    source_replies::hand_over(source_replies::of_advanced(x), state, answer)
 }
 
 // How many bytes are unread.
@@ -94,14 +94,14 @@ pub extern "C" fn stivlaheim_source_window_len(
     state: &mut [u64],
     answer: &mut [u64],
 ) -> u32
-    ensures { λ r. ⌜ after (returned r (now (answer .exit))) (now (state .exit)) (now (buffer .entry)) ≡ called (replyOf numberWords) (windowLen (now (supply .entry)) (now (schedule .entry))) (now (answer .entry)) (now (state .entry)) (now (buffer .entry)) ⌝ }
+    ensures { λ r. ⌜ callerHas (returned r (now (answer .exit))) (now (state .exit)) (now (buffer .entry)) ≡ called (replyOf numberWords) (windowLen (now (supply .entry)) (now (schedule .entry))) (now (answer .entry)) (now (state .entry)) (now (buffer .entry)) ⌝ }
 {
     let a = states::ask(state, answer);
     let Asked::State(s) = a else {
         return a.number();
     };
     let x = s.window_len(buffer, supply, schedule);
-    left::hand_over(left::of_window_len(s, x), state, answer)
+    source_replies::hand_over(source_replies::of_window_len(s, x), state, answer)
 }
 
 // The part that is unread.
@@ -113,14 +113,14 @@ pub extern "C" fn stivlaheim_source_window(
     state: &mut [u64],
     answer: &mut [u64],
 ) -> u32
-    ensures { λ r. ⌜ after (returned r (now (answer .exit))) (now (state .exit)) (now (buffer .entry)) ≡ called (replyOf textWords) (windowPart (now (supply .entry)) (now (schedule .entry))) (now (answer .entry)) (now (state .entry)) (now (buffer .entry)) ⌝ }
+    ensures { λ r. ⌜ callerHas (returned r (now (answer .exit))) (now (state .exit)) (now (buffer .entry)) ≡ called (replyOf textWords) (windowPart (now (supply .entry)) (now (schedule .entry))) (now (answer .entry)) (now (state .entry)) (now (buffer .entry)) ⌝ }
 {
     let a = states::ask(state, answer);
     let Asked::State(s) = a else {
         return a.number();
     };
     let x = s.window_len(buffer, supply, schedule);
-    left::hand_over(left::of_window(s, x), state, answer)
+    source_replies::hand_over(source_replies::of_window(s, x), state, answer)
 }
 
 // The next bytes, which are read.
@@ -133,14 +133,14 @@ pub extern "C" fn stivlaheim_source_take(
     count: usize,
     answer: &mut [u64],
 ) -> u32
-    ensures { λ r. ⌜ after (returned r (now (answer .exit))) (now (state .exit)) (now (buffer .exit)) ≡ called (replyOf textWords) (taken (now (supply .entry)) (now (schedule .entry)) count) (now (answer .entry)) (now (state .entry)) (now (buffer .entry)) ⌝ }
+    ensures { λ r. ⌜ callerHas (returned r (now (answer .exit))) (now (state .exit)) (now (buffer .exit)) ≡ called (replyOf textWords) (taken (now (supply .entry)) (now (schedule .entry)) count) (now (answer .entry)) (now (state .entry)) (now (buffer .entry)) ⌝ }
 {
     let a = states::ask(state, answer);
     let Asked::State(s) = a else {
         return a.number();
     };
     let x = s.take(count, buffer, supply, schedule);
-    left::hand_over(left::of_taken(x), state, answer)
+    source_replies::hand_over(source_replies::of_taken(x), state, answer)
 }
 
 // As `take`.
@@ -153,7 +153,7 @@ pub extern "C" fn stivlaheim_source_take_bytes(
     count: usize,
     answer: &mut [u64],
 ) -> u32
-    ensures { λ r. ⌜ after (returned r (now (answer .exit))) (now (state .exit)) (now (buffer .exit)) ≡ called (replyOf textWords) (taken (now (supply .entry)) (now (schedule .entry)) count) (now (answer .entry)) (now (state .entry)) (now (buffer .entry)) ⌝ }
+    ensures { λ r. ⌜ callerHas (returned r (now (answer .exit))) (now (state .exit)) (now (buffer .exit)) ≡ called (replyOf textWords) (taken (now (supply .entry)) (now (schedule .entry)) count) (now (answer .entry)) (now (state .entry)) (now (buffer .entry)) ⌝ }
 {
     stivlaheim_source_take(buffer, supply, schedule, state, count, answer)
 }
@@ -168,14 +168,14 @@ pub extern "C" fn stivlaheim_source_try_take(
     count: usize,
     answer: &mut [u64],
 ) -> u32
-    ensures { λ r. ⌜ after (returned r (now (answer .exit))) (now (state .exit)) (now (buffer .exit)) ≡ called (replyOrNone textWords) (tried (now (supply .entry)) (now (schedule .entry)) count) (now (answer .entry)) (now (state .entry)) (now (buffer .entry)) ⌝ }
+    ensures { λ r. ⌜ callerHas (returned r (now (answer .exit))) (now (state .exit)) (now (buffer .exit)) ≡ called (replyOrNone textWords) (tried (now (supply .entry)) (now (schedule .entry)) count) (now (answer .entry)) (now (state .entry)) (now (buffer .entry)) ⌝ }
 {
     let a = states::ask(state, answer);
     let Asked::State(s) = a else {
         return a.number();
     };
     let x = s.try_take(count, buffer, supply, schedule);
-    left::hand_over(left::of_tried(x), state, answer)
+    source_replies::hand_over(source_replies::of_tried(x), state, answer)
 }
 
 // As `try_take`.
@@ -188,7 +188,7 @@ pub extern "C" fn stivlaheim_source_try_take_bytes(
     count: usize,
     answer: &mut [u64],
 ) -> u32
-    ensures { λ r. ⌜ after (returned r (now (answer .exit))) (now (state .exit)) (now (buffer .exit)) ≡ called (replyOrNone textWords) (tried (now (supply .entry)) (now (schedule .entry)) count) (now (answer .entry)) (now (state .entry)) (now (buffer .entry)) ⌝ }
+    ensures { λ r. ⌜ callerHas (returned r (now (answer .exit))) (now (state .exit)) (now (buffer .exit)) ≡ called (replyOrNone textWords) (tried (now (supply .entry)) (now (schedule .entry)) count) (now (answer .entry)) (now (state .entry)) (now (buffer .entry)) ⌝ }
 {
     stivlaheim_source_try_take(buffer, supply, schedule, state, count, answer)
 }
@@ -203,12 +203,12 @@ pub extern "C" fn stivlaheim_source_peek(
     count: usize,
     answer: &mut [u64],
 ) -> u32
-    ensures { λ r. ⌜ after (returned r (now (answer .exit))) (now (state .exit)) (now (buffer .exit)) ≡ called (replyOrNone textWords) (peeked (now (supply .entry)) (now (schedule .entry)) count) (now (answer .entry)) (now (state .entry)) (now (buffer .entry)) ⌝ }
+    ensures { λ r. ⌜ callerHas (returned r (now (answer .exit))) (now (state .exit)) (now (buffer .exit)) ≡ called (replyOrNone textWords) (peeked (now (supply .entry)) (now (schedule .entry)) count) (now (answer .entry)) (now (state .entry)) (now (buffer .entry)) ⌝ }
 {
     let a = states::ask(state, answer);
     let Asked::State(s) = a else {
         return a.number();
     };
     let x = s.peek(count, buffer, supply, schedule);
-    left::hand_over(left::of_tried(x), state, answer)
+    source_replies::hand_over(source_replies::of_tried(x), state, answer)
 }

@@ -9,10 +9,10 @@ ghost use Rattle.listing.specs.Answers.{listedOutcome};
 ghost use Rattle.capi.specs.Replies.{returned, into};
 ghost use Rattle.capi.specs.Code.{asReply};
 ghost use Rattle.capi.specs.Outputs.{outcomeReply, leftBy};
-ghost use Rattle.capi.specs.Given.{givenToken, writeReturns, writeLeaves};
+ghost use Rattle.capi.specs.Offered.{offeredToken, writeReturns, writeLeaves};
 use crate::codes;
-use crate::given;
-use crate::given::Given;
+use crate::offered;
+use crate::offered::Offered;
 use crate::replies;
 use crate::replies::Reply;
 use listing::Listed;
@@ -28,8 +28,8 @@ pub extern "C" fn stivlaheim_write(
     out: &mut [u8],
     answer: &mut [u64],
 ) -> u32
-    ensures { λ r. ⌜ returned r (now (answer .exit)) ≡ writeReturns (length (now (out .entry))) (now (bytes .entry)) (now (answer .entry)) (givenToken kind (now (words .entry))) ⌝ }
-    ensures { λ _. ⌜ now (out .exit) ≡ writeLeaves (now (bytes .entry)) (now (answer .entry)) (givenToken kind (now (words .entry))) (now (out .entry)) ⌝ }
+    ensures { λ r. ⌜ returned r (now (answer .exit)) ≡ writeReturns (length (now (out .entry))) (now (bytes .entry)) (now (answer .entry)) (offeredToken kind (now (words .entry))) ⌝ }
+    ensures { λ _. ⌜ now (out .exit) ≡ writeLeaves (now (bytes .entry)) (now (answer .entry)) (offeredToken kind (now (words .entry))) (now (out .entry)) ⌝ }
 {
     if answer.len() < 8 {
         return codes::SHORT_ANSWER;
@@ -37,8 +37,8 @@ pub extern "C" fn stivlaheim_write(
     if words.len() < 5 {
         return codes::BAD_ARGUMENT;
     }
-    let g = given::of_words(kind, words);
-    let Given::Token(t) = g else {
+    let g = offered::of_words(kind, words);
+    let Offered::Token(t) = g else {
         return codes::BAD_ARGUMENT;
     };
     let x = writer::write(bytes, t, out);

@@ -94,7 +94,7 @@ pub record Agrees (s : List ℕ) (k n : ℕ) (h : List ℕ) : Type 0 where
   pub value : Value
   pub reads : at token s 0 ≡ found value n
   pub kinds : kind value ≡ k
-  pub gives : Held value h
+  pub holds : Held value h
 
 -- the length of a string in the window
 abbrev size : List ℕ → ℕ
@@ -118,7 +118,7 @@ module _ (s held : List ℕ) (bytes : Bytes s) (long : 16 ≤ length s) where
       let there : at token s 0 ≡ found (f x) (2 + w) =
       token-by e ∙ at-giving (num w) f s 2 ∙ ap (mapped f) (num-there w s 2 (after-two w (omega (arith, t .0)))) in
       let size : 2 + w ≡ n = cc in
-      record { value = f x; reads = there ∙ ap (found (f x)) size; kinds = cc; gives = t .1 x held (small w) }
+      record { value = f x; reads = there ∙ ap (found (f x)) size; kinds = cc; holds = t .1 x held (small w) }
 
   module _ (f : List ℕ → Value) (t : Told (text f)) (e : after (le (take 2 s)) ≡ text f) (k n : ℕ) where
     text-agrees : (b : Bool) → leb (4 + size s) (length s) ≡ b → stepText f (size s) (length s) held .step ≡ fast k n → Agrees s k n (stepText f (size s) (length s) held .held)
@@ -135,7 +135,7 @@ module _ (s held : List ℕ) (bytes : Bytes s) (long : 16 ≤ length s) where
           value = f u;
           reads = all ∙ ap (found (f u)) count;
           kinds = t .0 u ∙ cc;
-          gives = t .1 u _ (front-le 2 (size s) held (small 2) ∙ sym long′);
+          holds = t .1 u _ (front-le 2 (size s) held (small 2) ∙ sym long′);
         })
     text-agrees false l q = let q′ = rw l at q in never (cc)
 

@@ -26,7 +26,7 @@ use Rattle.form.specs.Saves.{step, walkF, walk, tokens, normal, LIMIT, C
 use Rattle.form.specs.Writing.{written, fitted, firstRefusal, unless, normalise}
 use Rattle.form.specs.Keys.{Test, count, deeper, anyToken, isContainer, isStray, isKey, Counts, counts}
 use Rattle.form.specs.Ascii.{ascii, decimalF, decimal, signed, hex, hexOrDash, truth, spaced, line}
-use Rattle.form.specs.Listing.{name, alphaWords, shown, tokenLine, countWords, endLine, refusalWord, errorLine, textOf, listing, list}
+use Rattle.form.specs.Listing.{name, alphaWords, shown, tokenLine, countWords, endLine, refusalWord, errorLine, linesOf, listing, list}
 use Rattle.form.proofs.Never.{never}
 use Rattle.form.proofs.LittleEndian.{drop-bytes}
 use Rattle.form.proofs.Found.{All, all-mapped, all-then, all-weaken, Number, num-found, Text, string-found, rgb-found, Within, token-in}
@@ -239,8 +239,8 @@ sum d n rest s x y m e h l t =
     omega (arith, q, mul-le-mul-left d h)
 
 text-length : (d k p : ℕ) (s last : List ℕ) → Bytes s → p + length s < 10 ^ suc d → length last ≤ 5 * d + 43
-    → 2 * length (textOf last (walkF k p s)) ≤ (d + 23) * length s + (10 * d + 86)
-unfolding textOf walkF step
+    → 2 * length (linesOf last (walkF k p s)) ≤ (d + 23) * length s + (10 * d + 86)
+unfolding linesOf walkF step
 text-length d zero p s last h l m = omega arith
 text-length d (suc k) p [] last h l m = omega arith
 text-length d (suc k) p (b ∷ s) last h l m =
@@ -248,8 +248,8 @@ text-length d (suc k) p (b ∷ s) last h l m =
   where
     go : (a : Answer Value) → All (Shown (b ∷ s)) a
         → ((n : ℕ) → p + n + length (drop n (b ∷ s)) < 10 ^ suc d
-        → 2 * length (textOf last (walkF k (p + n) (drop n (b ∷ s)))) ≤ (d + 23) * length (drop n (b ∷ s)) + (10 * d + 86))
-        → 2 * length (textOf last (step p a (λ n. walkF k (p + n) (drop n (b ∷ s))))) ≤ (d + 23) * length (b ∷ s) + (10 * d + 86)
+        → 2 * length (linesOf last (walkF k (p + n) (drop n (b ∷ s)))) ≤ (d + 23) * length (drop n (b ∷ s)) + (10 * d + 86))
+        → 2 * length (linesOf last (step p a (λ n. walkF k (p + n) (drop n (b ∷ s))))) ≤ (d + 23) * length (b ∷ s) + (10 * d + 86)
     go (found v n) x ih =
         let r = length-drop n (b ∷ s) in
         rw length-append

@@ -1,4 +1,4 @@
--- What the scope paper says in sentences that no marked specimen tries: a theorem of examples for each part of the definition. Assumes nothing.
+-- What FORMAT.md says in sentences that no marked specimen tries: a theorem of examples for each part of the definition. Assumes nothing.
 use Prim.Native.Nat.{ℕ}
 use mathlib.Core.Path.{_≡_, refl}
 use mathlib.Core.Bool.{true}
@@ -20,7 +20,7 @@ use Rattle.form.specs.Writing.{unwritten, leaves, fitted, write, firstRe
 use Rattle.form.specs.Fast.{Step, fast, slow, Stepped, front, stepNumber, stepText, stepBy, fastStep}
 use Rattle.form.specs.Keys.{isOpen, isClose, isEqual, deeper, equalNext, isKey, count, counts}
 use Rattle.form.specs.Ascii.{ascii, decimalF, decimal, spaced, line}
-use Rattle.form.specs.Listing.{name, shown, tokenLine, countWords, endLine, refusalWord, errorLine, textOf, listing}
+use Rattle.form.specs.Listing.{name, shown, tokenLine, countWords, endLine, refusalWord, errorLine, linesOf, listing}
 use Rattle.form.proofs.Specimens.{cursor, eof}
 
 -- a skip ends with the container that it began in; refused, it stays where its failing read began: after an id whose payload fails, and at an
@@ -61,5 +61,5 @@ pub lists-hold : (listing (0x04 ∷ 0x00 ∷ 0x03 ∷ 0x00 ∷ 0x01 ∷ 0x28 ∷
     × (listing (0x04 ∷ 0x00 ∷ 0x03 ∷ []) ≡ ascii "0 close\nerror eof 2\n")
 unfolding le kind table entries find orPlain after refusalAt further andThen mapped _followed-by_ _giving_ next num payload token step walkF walk isOpen
     isClose isEqual deeper equalNext isKey count counts decimalF decimal spaced line name shown tokenLine countWords endLine refusalValue refusalValues
-    refusalWord errorLine textOf listing
+    refusalWord errorLine linesOf listing
 lists-hold = (refl, refl)

@@ -1,4 +1,4 @@
--- The marked specimens of the scope paper, and its worked example, as one table with one theorem. Assumes nothing.
+-- The marked specimens of FORMAT.md, and its worked example, as one table with one theorem. Assumes nothing.
 use Prim.Native.Nat.{ℕ}
 use mathlib.Core.Path.{_≡_, refl}
 use mathlib.Core.Option.{Option, none}
@@ -102,7 +102,7 @@ specimens =
     ∷ (normalises 36 save ⇒ output (unwritten (NoRoom 37)))
     ∷ []
 
--- the definitions answer each specimen as the paper says
+-- the definitions answer each specimen as FORMAT.md says
 pub specimens-hold : map (λ (s : Specimen). answer (s .ask)) specimens ≡ map (λ (s : Specimen). s .reply) specimens
 unfolding answer specimens save saveNormal _⇒_ le leBytes kind table entries find orPlain after OPEN CLOSE CHANNEL refusalAt further
     andThen mapped _followed-by_ _giving_ next num string channel rgb payload token at within ended reads optional nexts landed skips tag body spell

@@ -245,27 +245,27 @@ of-one P (k ∷ k′ ∷ ks) t (inr h) = of-one P (k′ ∷ ks) (t .1) h
 abbrev pub Kept : ℕ → ℕ → Type 0
 Kept w i = KeptNumber w (256 ^ w) i
 
-abbrev pub fours : List ℕ
-fours = 0x000c ∷ 0x0014 ∷ []
+abbrev pub kept4 : List ℕ
+kept4 = 0x000c ∷ 0x0014 ∷ []
 
-pub fours-kept : OfEach (Kept 4) fours
+pub fours-kept : OfEach (Kept 4) kept4
 unfolding after find entries table orPlain spell tag body wide kind writable
 fours-kept =
     record { value = signed32; is = refl; keeps = λ n h. (rw (ofZ-toZ w32 n (record { fits = h })), refl) }
     & record { value = U32; is = refl; keeps = λ n h. (refl, refl) }
     & tt
 
-abbrev pub floats : List ℕ
-floats = 0x000d ∷ []
+abbrev pub keptF32 : List ℕ
+keptF32 = 0x000d ∷ []
 
-pub floats-kept : OfEach (Kept 4) floats
+pub floats-kept : OfEach (Kept 4) keptF32
 unfolding after find entries table orPlain spell tag body wide kind writable
 floats-kept = record { value = F32; is = refl; keeps = λ n h. (refl, refl) } & tt
 
-abbrev pub eights : List ℕ
-eights = 0x0167 ∷ 0x029c ∷ 0x0317 ∷ []
+abbrev pub kept8 : List ℕ
+kept8 = 0x0167 ∷ 0x029c ∷ 0x0317 ∷ []
 
-pub eights-kept : OfEach (Kept 8) eights
+pub eights-kept : OfEach (Kept 8) kept8
 unfolding after find entries table orPlain spell tag body wide kind writable
 eights-kept =
     record { value = F64; is = refl; keeps = λ n h. (refl, refl) }
@@ -276,10 +276,10 @@ eights-kept =
 narrow-enough : (n : ℕ) → n < 256 ^ 3 → not (ltb n (2 ^ 24)) ≡ false
 narrow-enough n h = rw (lt-ltb n (2 ^ 24) h)
 
-abbrev pub threes : List ℕ
-threes = 0x0d41 ∷ []
+abbrev pub kept3 : List ℕ
+kept3 = 0x0d41 ∷ []
 
-pub threes-kept : OfEach (Kept 3) threes
+pub threes-kept : OfEach (Kept 3) kept3
 unfolding after find entries table orPlain spell tag body wide kind writable
 threes-kept = record { value = Lookup; is = refl; keeps = λ n h. (refl, narrow-enough n h) } & tt
 
@@ -288,27 +288,27 @@ bit-same : (n : ℕ) → n < 2 → bit (not (eqb n 0)) ≡ n
 bit-same zero h = refl
 bit-same (suc n) h = rw (ne-eqb (suc n) 0 (λ e. omega arith)) (omega arith)
 
-abbrev pub truths : List ℕ
-truths = 0x000e ∷ []
+abbrev pub keptTruths : List ℕ
+keptTruths = 0x000e ∷ []
 
-pub truths-kept : OfEach (KeptNumber 1 2) truths
+pub truths-kept : OfEach (KeptNumber 1 2) keptTruths
 unfolding after find entries table orPlain spell tag body wide kind writable
 truths-kept = record { value = nonzero; is = refl; keeps = λ n h. (rw (bit-same n h), refl) } & tt
 
-abbrev pub texts : List ℕ
-texts = 0x000f ∷ 0x0017 ∷ []
+abbrev pub keptTexts : List ℕ
+keptTexts = 0x000f ∷ 0x0017 ∷ []
 
-pub texts-kept : OfEach KeptText texts
+pub texts-kept : OfEach KeptText keptTexts
 unfolding after find entries table orPlain spell tag body wide kind writable
 texts-kept =
     record { value = Quoted; is = refl; keeps = λ t. (refl, refl) }
     & record { value = Unquoted; is = refl; keeps = λ t. (refl, refl) }
     & tt
 
-abbrev pub colours : List ℕ
-colours = 0x0243 ∷ []
+abbrev pub keptColours : List ℕ
+keptColours = 0x0243 ∷ []
 
-pub colours-kept : OfEach KeptColour colours
+pub colours-kept : OfEach KeptColour keptColours
 unfolding after find entries table orPlain kind
 colours-kept = record { is = refl; keeps = refl } & tt
 

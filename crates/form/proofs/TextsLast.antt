@@ -15,22 +15,22 @@ use Rattle.form.proofs.Found.{All, all-then, all-mapped, all-weaken, Nu
 use Rattle.form.proofs.Sound.{_&_}
 
 -- the text of a value, empty where it has none
-unfoldable pub texts : Value → List ℕ
-texts Open = []
-texts Close = []
-texts Equal = []
-texts (U32 n) = []
-texts (U64 n) = []
-texts (F32 n) = []
-texts (F64 n) = []
-texts (Lookup n) = []
-texts (Id i) = []
-texts (I32 z) = []
-texts (I64 z) = []
-texts (Truth b) = []
-texts (Quoted t) = t
-texts (Unquoted t) = t
-texts (Rgb r g b a) = []
+unfoldable pub ownText : Value → List ℕ
+ownText Open = []
+ownText Close = []
+ownText Equal = []
+ownText (U32 n) = []
+ownText (U64 n) = []
+ownText (F32 n) = []
+ownText (F64 n) = []
+ownText (Lookup n) = []
+ownText (Id i) = []
+ownText (I32 z) = []
+ownText (I64 z) = []
+ownText (Truth b) = []
+ownText (Quoted t) = t
+ownText (Unquoted t) = t
+ownText (Rgb r g b a) = []
 
 -- t is the last part of the first n bytes
 pub record Last (s t : List ℕ) (n : ℕ) : Type 0 where
@@ -38,24 +38,24 @@ pub record Last (s t : List ℕ) (n : ℕ) : Type 0 where
   pub last : take (length t) (drop (n - length t) s) ≡ t
 
 abbrev pub Ends : List ℕ → Value → ℕ → Type 0
-Ends s v n = Last s (texts v) n
+Ends s v n = Last s (ownText v) n
 
-no-text : (s : List ℕ) (v : Value) (n : ℕ) → texts v ≡ [] → Ends s v n
+no-text : (s : List ℕ) (v : Value) (n : ℕ) → ownText v ≡ [] → Ends s v n
 no-text s v n e = rw e (record { fits = zero-le; last = refl })
 
 abbrev EndsBy : Payload → Type 0
-EndsBy (number w f) = (n : ℕ) → texts (f n) ≡ []
-EndsBy (text f) = (t : List ℕ) → texts (f t) ≡ t
+EndsBy (number w f) = (n : ℕ) → ownText (f n) ≡ []
+EndsBy (text f) = (t : List ℕ) → ownText (f t) ≡ t
 EndsBy colour = Unit {0}
 
 entries-end : InEach EndsBy entries
-unfolding entries table texts
+unfolding entries table ownText
 entries-end =
     (λ _. refl) & (λ _. refl) & (λ _. refl) & (λ _. refl) & (λ _. refl) & (λ _. refl) & (λ _. refl) & (λ _. refl) & (λ _. refl) & (λ _. refl) & (λ _. refl) & (λ _. refl) & (λ _. refl)
     & tt & (λ _. refl) & (λ _. refl) & (λ _. refl) & (λ _. refl) & (λ _ _ _ _. refl) & (λ _ _ _ _. refl) & tt
 
 after-ends : (i : ℕ) → EndsBy (after i)
-unfolding texts
+unfolding ownText
 after-ends i = by-table EndsBy entries-end i (λ _ _. refl)
 
 text-last : (s t : List ℕ) (n : ℕ) → Text s t n → Last s t n
@@ -64,7 +64,7 @@ text-last s t n k =
     record { fits = omega (arith, k .count); last = rw d (sym (k .is)) }
 
 payload-ends : (p : Payload) → EndsBy p → (s : List ℕ) → All (Ends s) (payload p s)
-unfolding payload _giving_ texts
+unfolding payload _giving_ ownText
 payload-ends (number w f) e s = all-mapped (Number w s) (Ends s) f (num w s) (num-found w s) (λ x n _. no-text s (f x) n (e x))
 payload-ends (text f) e s = all-mapped (Text s) (Ends s) f (string s) (string-found s) (λ t n k. rw (e t) (text-last s t n k))
 payload-ends colour e s = rgb-found (Ends s) s (λ r g b _ _. no-text s (Rgb r g b none) 22 refl) (λ r g b a _ _. no-text s (Rgb r g b (some a)) 28 refl)
@@ -74,9 +74,9 @@ unfolding token
 token-ends s =
     all-then (Number 2 s) (Ends s) (num 2) _ s (num-found 2 s) (λ i n e.
     all-weaken (Ends (drop n s)) (λ v m. Ends s v (n + m)) (payload (after i) (drop n s)) (payload-ends (after i) (after-ends i) (drop n s)) (λ v m k.
-    let l : length (texts v) ≤ m = k .fits in
-    let q : n + (m - length (texts v)) ≡ n + m - length (texts v) = omega arith in
-    record { fits = omega arith; last = rw (← q, ← drop-drop (m - length (texts v)) n s) (k .last) }))
+    let l : length (ownText v) ≤ m = k .fits in
+    let q : n + (m - length (ownText v)) ≡ n + m - length (ownText v) = omega arith in
+    record { fits = omega arith; last = rw (← q, ← drop-drop (m - length (ownText v)) n s) (k .last) }))
 
 -- the same of a token at a place of the bytes
 pub token-ends-at : (s : List ℕ) (p : ℕ) → All (Ends s) (at token s p)
@@ -85,7 +85,7 @@ token-ends-at s p = go (token (drop p s)) (token-ends (drop p s))
   where
     go : (a : Answer Value) → All (Ends (drop p s)) a → All (Ends s) (further p a)
     go (found v n) k =
-        let l : length (texts v) ≤ n = k .fits in
-        let q : p + (n - length (texts v)) ≡ p + n - length (texts v) = omega arith in
-        record { fits = omega arith; last = rw (← q, ← drop-drop (n - length (texts v)) p s) (k .last) }
+        let l : length (ownText v) ≤ n = k .fits in
+        let q : p + (n - length (ownText v)) ≡ p + n - length (ownText v) = omega arith in
+        record { fits = omega arith; last = rw (← q, ← drop-drop (n - length (ownText v)) p s) (k .last) }
     go (refused why) k = tt

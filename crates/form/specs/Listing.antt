@@ -85,13 +85,13 @@ unfoldable pub errorLine : Refusal → List ℕ
 errorLine r = line (ascii "error") (ascii (refusalWord r) ∷ decimal (refusalValue r) ∷ [])
 
 -- the lines of a walk, with the last line of one that is read to its end
-unfoldable pub textOf : List ℕ → Walk → List ℕ
-textOf last done = last
-textOf last (cut r) = errorLine r
-textOf last (then p n v w) = tokenLine p v ++ textOf last w
+unfoldable pub linesOf : List ℕ → Walk → List ℕ
+linesOf last done = last
+linesOf last (cut r) = errorLine r
+linesOf last (then p n v w) = tokenLine p v ++ linesOf last w
 
 unfoldable pub listing : List ℕ → List ℕ
-listing s = textOf (endLine (length s) (counts (walk s))) (walk s)
+listing s = linesOf (endLine (length s) (counts (walk s))) (walk s)
 
 -- the dump of a save into an output with so much room
 unfoldable pub list : ℕ → List ℕ → Output

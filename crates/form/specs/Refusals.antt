@@ -1,4 +1,4 @@
--- The refusals: the scope paper's table, in its order.
+-- The refusals: FORMAT.md's table, in its order.
 use Prim.Native.Nat.{ℕ}
 use mathlib.Core.Bool.{Bool, true, false}
 use mathlib.Core.List.{List, [], _∷_}
@@ -19,7 +19,7 @@ pub data Refusal : Type 0 where
   -- the input's length
   TooLong : ℕ → Refusal
 
--- the paper's number
+-- its number there
 unfoldable pub refusalNumber : Refusal → ℕ
 refusalNumber (Eof p) = 1
 refusalNumber (InvalidRgb p) = 2

@@ -1,4 +1,4 @@
--- The table of ids. Each row of the scope paper's table is a row here, in its order; the paper's row stands above it.
+-- The table of ids, row by row as docs/FORMAT.md has it, and in its order; what a row says there stands above it.
 use Prim.Native.Nat.{ℕ, zero, suc, _+_, _-_}
 use mathlib.Core.Bool.{Bool, true, false, _&&_, _||_}
 use mathlib.Core.Option.{Option, none, some}

@@ -31,7 +31,7 @@ nonzero n = Truth (not (eqb n 0))
 abbrev pub negative : ℕ → Value
 negative n = F64 (negated n)
 
--- the number of a value's kind: its place in 000's TokenKind
+-- the number of a value's kind: its place in the original's TokenKind
 unfoldable pub kind : Value → ℕ
 kind Open = 0
 kind Close = 1

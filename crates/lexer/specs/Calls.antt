@@ -164,6 +164,6 @@ skipCall (Skip.Refused e d) = refuses (refusalOf e) (cursorOf d)
 
 -- ---- the part of the bytes that a call gives the place of; none where it is refused
 
-abbrev pub partOf : List ℕ → Call Text → List ℕ
-partOf s (gives x c) = Texts.partOf s x
-partOf s (refuses e c) = []
+abbrev pub givenPart : List ℕ → Call Text → List ℕ
+givenPart s (gives x c) = Texts.partOf s x
+givenPart s (refuses e c) = []

@@ -1,7 +1,7 @@
 // Bytes of the input that are handed back as they stand.
 ghost use mathlib.Core.Path.{_≡_};
 ghost use Rattle.form.specs.Calls.{reads};
-ghost use Rattle.lexer.specs.Calls.{cursorOf, bytesAt, remainderOf, stringCall, partOf};
+ghost use Rattle.lexer.specs.Calls.{cursorOf, bytesAt, remainderOf, stringCall, givenPart};
 use crate::Lexer;
 use crate::Place;
 use crate::answers::LexString;
@@ -44,7 +44,7 @@ impl Lexer {
 
     // The bytes that are left; none where they are refused.
     pub fn remainder_part(self, bytes: &[u8]) -> &[u8]
-        ensures { λ r. ⌜ now r ≡ partOf (now (bytes .entry)) (remainderOf (now (bytes .entry)) (cursorOf self)) ⌝ }
+        ensures { λ r. ⌜ now r ≡ givenPart (now (bytes .entry)) (remainderOf (now (bytes .entry)) (cursorOf self)) ⌝ }
     {
         let r = self.remainder(bytes);
         match r {
@@ -55,7 +55,7 @@ impl Lexer {
 
     // The next bytes, so many; none where they are refused.
     pub fn read_bytes_part(self, bytes: &[u8], count: usize) -> &[u8]
-        ensures { λ r. ⌜ now r ≡ partOf (now (bytes .entry)) (reads (bytesAt count) (now (bytes .entry)) (cursorOf self)) ⌝ }
+        ensures { λ r. ⌜ now r ≡ givenPart (now (bytes .entry)) (reads (bytesAt count) (now (bytes .entry)) (cursorOf self)) ⌝ }
     {
         let r = self.read_bytes(bytes, count);
         match r {

@@ -19,7 +19,7 @@ use Rattle.token.specs.declared.Token.{Token}
 use Rattle.token.specs.declared.Token.the-variants as T
 use Rattle.token.proofs.Token.{the-type}
 use Rattle.listing.specs.declared.tally.Tally.{Tally}
-use Rattle.listing.specs.Tallies.{none, tallied, counted, Sound}
+use Rattle.listing.specs.Tallies.{noneYet, tallied, counted, Sound}
 
 -- what has been counted, and what is still to be counted
 abbrev pub total : Tally → Walk → Counts
@@ -50,7 +50,7 @@ total-step c p n v w = λ i. record {
 zero-add₂ : (n : ℕ) → 0 + (0 + n) ≡ n
 zero-add₂ n = omega arith
 
-pub total-none : (w : Walk) → total none w ≡ counts w
+pub total-none : (w : Walk) → total noneYet w ≡ counts w
 unfolding counts
 total-none w = λ i. record {
   tokens = zero-add (count anyToken 0 w) i;
@@ -87,7 +87,7 @@ deeper-one v d = go (isOpen v) (isClose v)
     go false true = omega arith
     go false false = omega arith
 
-pub sound-none : Sound none
+pub sound-none : Sound noneYet
 sound-none = record { containers = omega arith; keys = omega arith; strays = omega arith; depth = omega arith }
 
 pub sound-step : (c : Tally) (v : Value) → Sound c → Sound (tallied c v)

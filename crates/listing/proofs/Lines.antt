@@ -7,17 +7,17 @@ use mathlib.Core.List.{List}
 use lib.ListN.{length}
 use Rattle.form.specs.Values as F
 use Rattle.form.specs.Listing.{name, shown, tokenLine}
-use Rattle.form.proofs.TextsLast.{texts, Last, Ends}
+use Rattle.form.proofs.TextsLast.{ownText, Last, Ends}
 use Rattle.payload.specs.Answers.{textOf}
 use Rattle.payload.specs.Texts.{partOf}
 use Rattle.payload.proofs.Texts.{within}
 use Rattle.token.specs.Tokens.{tokenOf}
 use Rattle.token.specs.declared.Token.{Token}
 use Rattle.token.specs.declared.Token.the-variants as T
-use Rattle.listing.specs.Parts.{shapeWords, partsOf, lineOf}
+use Rattle.listing.specs.Shapes.{shapeWords, shownAs, lineOf}
 
 -- a name is no longer than the bytes that it stands in
-pub short : (t : Token) → partsOf t .len ≤ length (partsOf t .name)
+pub short : (t : Token) → shownAs t .len ≤ length (shownAs t .name)
 short T.Open = omega arith
 short T.Close = omega arith
 short T.Equal = omega arith
@@ -41,8 +41,8 @@ text-is s t e k h =
     let q : e - length t + length t ≤ length s = omega arith in
     rw (within s (textOf e t) q) (k .last)
 
-pub line-is : (s : List ℕ) (p e : ℕ) (v : F.Value) → Ends s v e → e ≤ length s → lineOf s p (partsOf (tokenOf e v)) ≡ tokenLine p v
-unfolding lineOf tokenLine tokenOf name shown shapeWords texts
+pub line-is : (s : List ℕ) (p e : ℕ) (v : F.Value) → Ends s v e → e ≤ length s → lineOf s p (shownAs (tokenOf e v)) ≡ tokenLine p v
+unfolding lineOf tokenLine tokenOf name shown shapeWords ownText
 line-is s p e F.Open k h = refl
 line-is s p e F.Close k h = refl
 line-is s p e F.Equal k h = refl

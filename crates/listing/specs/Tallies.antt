@@ -1,4 +1,4 @@
--- The code's tally, which looks back where the definition's counts look ahead.
+-- No public promise goes through this file. The code's tally, which looks back where the definition's counts look ahead.
 use mathlib.Core.Path.{_≡_}
 use Prim.Native.Nat.{ℕ, _+_, _≤_}
 use mathlib.Core.Bool.{false, not, _&&_, _||_}
@@ -11,8 +11,8 @@ use Rattle.token.specs.Tokens.{valueOf}
 use Rattle.token.specs.declared.Token.{Token}
 use Rattle.listing.specs.declared.tally.Tally.{Tally}
 
-abbrev pub none : Tally
-none = record { tokens = 0; containers = 0; keys = 0; strays = 0; depth = 0; candidate = false }
+abbrev pub noneYet : Tally
+noneYet = record { tokens = 0; containers = 0; keys = 0; strays = 0; depth = 0; candidate = false }
 
 -- a token more: an Equal makes a key of the token before it, if that could be one
 abbrev pub tallied : Tally → Value → Tally
@@ -26,8 +26,8 @@ tallied c v = record {
 }
 
 -- the same by the code's token, whatever bytes its text stands in
-abbrev pub After : Tally → Token → Tally → Type 0
-After c t r = (s : List ℕ) → r ≡ tallied c (valueOf s t)
+abbrev pub TalliesTo : Tally → Token → Tally → Type 0
+TalliesTo c t r = (s : List ℕ) → r ≡ tallied c (valueOf s t)
 
 abbrev pub counted : Tally → Counts
 counted c = record { tokens = c .tokens; containers = c .containers; keys = c .keys; strays = c .strays }

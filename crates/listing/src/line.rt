@@ -4,7 +4,7 @@ ghost use Rattle.form.specs.Ascii.{spaced};
 ghost use Rattle.form.specs.Listing.{alphaWords};
 ghost use Rattle.payload.specs.Answers.{alphaOf};
 ghost use Rattle.form.specs.Put.{Put};
-ghost use Rattle.listing.specs.Parts.{shapeWords, colourWords, partsOf, lineOf};
+ghost use Rattle.listing.specs.Shapes.{shapeWords, colourWords, shownAs, lineOf};
 use payload::Alpha;
 use payload::Rgb;
 use payload::Text;
@@ -30,20 +30,20 @@ enum Shape {
 }
 
 // The name of a kind, in the first bytes of eight, and what shows the value.
-struct Parts {
+struct Shown {
     pub name: [u8; 8],
     pub len: usize,
     pub shape: Shape,
 }
 
-fn named(name: [u8; 8], len: usize, shape: Shape) -> Parts
+fn named(name: [u8; 8], len: usize, shape: Shape) -> Shown
     ensures { λ r. ⌜ r ≡ record { name = name; len = len; shape = shape } ⌝ }
 {
-    Parts { name, len, shape }
+    Shown { name, len, shape }
 }
 
-fn parts_of(t: Token) -> Parts
-    ensures { λ r. ⌜ r ≡ partsOf t ⌝ }
+fn shown_as(t: Token) -> Shown
+    ensures { λ r. ⌜ r ≡ shownAs t ⌝ }
 {
     match t {
         Token::Open => named(*b"open    ", 4, Shape::Nothing),
@@ -114,9 +114,9 @@ fn put_shape(out: &mut [u8], at: usize, bytes: &[u8], shape: Shape) -> usize
 
 // The line of the token t at position p.
 pub(crate) fn put_line(out: &mut [u8], at: usize, bytes: &[u8], p: usize, t: Token) -> usize
-    ensures { λ r. ⌜ Put (now (out .entry)) at (lineOf (now (bytes .entry)) p (partsOf t)) (now (out .exit)) r ⌝ }
+    ensures { λ r. ⌜ Put (now (out .entry)) at (lineOf (now (bytes .entry)) p (shownAs t)) (now (out .exit)) r ⌝ }
 {
-    let what = parts_of(t);
+    let what = shown_as(t);
     let name = what.name;
     let len = what.len;
     let shape = what.shape;

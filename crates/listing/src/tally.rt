@@ -2,7 +2,7 @@
 ghost use mathlib.Core.Path.{_≡_};
 ghost use Prim.Native.Nat.{_<_};
 ghost use Rattle.form.specs.Numbers.{MAX};
-ghost use Rattle.listing.specs.Tallies.{Sound, none, After};
+ghost use Rattle.listing.specs.Tallies.{Sound, noneYet, TalliesTo};
 use token::Token;
 
 // What has been counted up to a place, the depth there, and whether the token before it is a key if Equal comes.
@@ -17,7 +17,7 @@ pub(crate) struct Tally {
 
 impl Tally {
     pub(crate) fn new() -> Tally
-        ensures { λ r. ⌜ r ≡ none ⌝ }
+        ensures { λ r. ⌜ r ≡ noneYet ⌝ }
     {
         Tally {
             tokens: 0,
@@ -33,7 +33,7 @@ impl Tally {
     pub(crate) fn after(self, t: Token) -> Tally
         requires { ⌜ Sound self ⌝ }
         requires { ⌜ self .tokens < MAX ⌝ }
-        ensures { λ r. ⌜ After self t r ⌝ }
+        ensures { λ r. ⌜ TalliesTo self t r ⌝ }
     {
         let mut c = self;
         c.tokens += 1;

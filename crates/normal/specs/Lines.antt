@@ -1,4 +1,4 @@
--- What the program writes of a save: its normal form, or the line of its first refusal.
+-- No public promise goes through this file. What the program writes of a save: its normal form, or the line of its first refusal.
 use Prim.Native.Nat.{ℕ}
 use mathlib.Core.List.{List}
 use Rattle.form.specs.Writing.{Output, written, unwritten}

@@ -1,4 +1,4 @@
-pub mod Parts
+pub mod Joining
 pub mod Spelled
 pub mod Steps
 pub mod Passing

@@ -21,15 +21,15 @@ use Rattle.form.specs.Saves.{LIMIT, walk, normal}
 use Rattle.form.specs.Writing.{written, unwritten, Outcome, wrote, outcome, leaves, Follows, fitted, firstRefusal, unless}
 use Rattle.form.proofs.Never.{never}
 use Rattle.form.proofs.Puts.{put-then, put-none as nothing, put-front}
-use Rattle.writer.specs.Parts.{idNumber}
+use Rattle.writer.specs.Layouts.{idNumber}
 use Rattle.normaliser.specs.declared.Normalised.{Normalised}
 use Rattle.normaliser.specs.declared.Normalised.the-variants.{Written}
 use Rattle.normaliser.specs.declared.Respelled.{Respelled}
 use Rattle.normaliser.specs.declared.Respelled.the-variants.{To, Refused}
-use Rattle.normaliser.specs.Parts.{before, Spells, Placed, Respelt, Respells, Stopped, Appends}
+use Rattle.normaliser.specs.Stretches.{before, Spells, Placed, Respelt, Respells, Stopped, Appends}
 use Rattle.normaliser.specs.Passes.{unbounded, Passed}
-use Rattle.normaliser.specs.Spellings.{Token, Stand}
-use Rattle.normaliser.proofs.Parts.{rest-start, rest-end, spells-none, spells-then}
+use Rattle.normaliser.specs.Spellings.{SpeltToken, Stand}
+use Rattle.normaliser.proofs.Joining.{rest-start, rest-end, spells-none, spells-then}
 
 -- ---- bytes into a part of the output
 
@@ -157,10 +157,10 @@ pub run-there : {s d₀ d : List ℕ} {i need e : ℕ} → Going s d₀ d i need
 run-there g h l = (h .on, h .there, omega (arith, g .appends .count, g .spells .short, h .on, h .there))
 
 module _ {s d₀ d d′ : List ℕ} {i need q r : ℕ} (x : ℕ) (g : Going s d₀ d i need) where
-  pub float-on : Token s i q (spell (F.F64 x)) → Appends d need (idNumber 0x0167 8 x) d′ r → Going s d₀ d′ q r
+  pub float-on : SpeltToken s i q (spell (F.F64 x)) → Appends d need (idNumber 0x0167 8 x) d′ r → Going s d₀ d′ q r
   unfolding spell tag body entries table kind leBytes
   float-on t a = went-on g (t .1) a
 
-  pub lookup-on : Token s i q (spell (F.Lookup x)) → Appends d need (idNumber 0x0d41 3 x) d′ r → Going s d₀ d′ q r
+  pub lookup-on : SpeltToken s i q (spell (F.Lookup x)) → Appends d need (idNumber 0x0d41 3 x) d′ r → Going s d₀ d′ q r
   unfolding spell tag body entries table kind leBytes
   lookup-on t a = went-on g (t .1) a

@@ -29,9 +29,9 @@ use Rattle.writer.specs.Writes.{writeToken, wroteOutcome}
 use Rattle.writer.proofs.Fitting.{fitted-written, fitted-refused}
 use Rattle.normaliser.specs.declared.Normalised.{Normalised}
 use Rattle.normaliser.specs.declared.Normalised.the-variants.{NotEncodable}
-use Rattle.normaliser.specs.Parts.{gives, Placed, Respelt, Stopped}
+use Rattle.normaliser.specs.Stretches.{outputOf, Placed, Respelt, Stopped}
 use Rattle.normaliser.specs.Passes.{normalisedOutcome}
-use Rattle.normaliser.proofs.Parts.{rest-from}
+use Rattle.normaliser.proofs.Joining.{rest-from}
 use Rattle.normaliser.proofs.Steps.{read-spells, token-writes}
 use Rattle.normaliser.proofs.Passing.{part, back, appends}
 
@@ -101,15 +101,15 @@ module _ (s : List ℕ) (b : (j : ℕ) → Fits w8 (getD s j 0)) (i : ℕ) {t : 
   -- or it cannot
   pub next-wide : (y : Wrote) {d d′ : List ℕ} → Follows (writeToken (length d) s t) (wroteOutcome y) d d′ → OneOf (1 ∷ 3 ∷ []) (tagOf the-type y)
       → Stopped s i (NotEncodable i)
-  unfolding gives firstRefusal unless
+  unfolding outputOf firstRefusal unless
   next-wide y f q =
       let w : wide v ≡ true = is-wide _ _ _ y (said f) q in
-      record { why = R.NotEncodable i; is = rest-from s i ∙ ap gives (r .walks) ∙ rw w; answer = refl }
+      record { why = R.NotEncodable i; is = rest-from s i ∙ ap outputOf (r .walks) ∙ rw w; answer = refl }
 
 -- ---- a token that was refused
 
-gives-cut : {w : Walk} {r : R.Refusal} → w ≡ cut r → gives w ≡ unwritten r
-unfolding gives firstRefusal unless
+gives-cut : {w : Walk} {r : R.Refusal} → w ≡ cut r → outputOf w ≡ unwritten r
+unfolding outputOf firstRefusal unless
 gives-cut e = rw e
 
 pub next-refused : {s : List ℕ} {i : ℕ} {e : R.Fault} {a : Normalised} → i < length s → tokenAt s i ≡ refused e → normalisedOutcome a ≡ declined (R.refusalAt i e)

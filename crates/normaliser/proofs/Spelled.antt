@@ -30,9 +30,9 @@ use Rattle.normaliser.specs.declared.spelling.Spelling.{Spelling}
 use Rattle.normaliser.specs.declared.spelling.Spelling.the-variants.{Stands, F64, Lookup, Otherwise}
 use Rattle.normaliser.specs.declared.spelling.Run.{Run}
 use Rattle.normaliser.specs.declared.spelling.Run.the-variants as R
-use Rattle.normaliser.specs.Parts.{between}
-use Rattle.normaliser.specs.Spellings.{Below, Within, Floats, Indexes, Token, Spelt, Stand, Ran}
-use Rattle.normaliser.proofs.Parts.{spells-then, spells-none, between-then, between-none}
+use Rattle.normaliser.specs.Stretches.{between}
+use Rattle.normaliser.specs.Spellings.{Below, Within, Floats, Indexes, SpeltToken, Spelt, Stand, Ran}
+use Rattle.normaliser.proofs.Joining.{spells-then, spells-none, between-then, between-none}
 use Rattle.normaliser.proofs.Steps.{read-spells}
 
 -- ---- what the leaves answer
@@ -76,7 +76,7 @@ ended f s p {a} {q} e = go (f (drop p s)) refl e
 
 module _ (s : List ℕ) (b : (j : ℕ) → Fits w8 (getD s j 0)) (p : ℕ) where
   -- what is read there is spelled as its value is
-  token-spells : {v : F.Value} {n : ℕ} → at token s p ≡ found v n → wide v ≡ false → Token s p n (spell v)
+  token-spells : {v : F.Value} {n : ℕ} → at token s p ≡ found v n → wide v ≡ false → SpeltToken s p n (spell v)
   token-spells e w = let r = read s p e in (r .on, read-spells (bytes-all s b) r w)
 
   stands : {n : ℕ} → Standing.Stands (drop p s) n → Spelt s p (Stands (p + n))
@@ -127,7 +127,7 @@ module _ (s : List ℕ) (b : (j : ℕ) → Fits w8 (getD s j 0)) (p : ℕ) where
     alone-arm h = number-arm (alone-kept i h) (Stands next) (0, lit< tt, num-there 0 s next zero-le ∙ ap (found 0) (add-zero next))
 
     -- otherwise, by the value of the number after its id
-    value-spells : {w x q : ℕ} {f : ℕ → F.Value} → T.after i ≡ number w f → at (num w) s next ≡ found x q → wide (f x) ≡ false → Token s p q (spell (f x))
+    value-spells : {w x q : ℕ} {f : ℕ → F.Value} → T.after i ≡ number w f → at (num w) s next ≡ found x q → wide (f x) ≡ false → SpeltToken s p q (spell (f x))
     unfolding payload mapped
     value-spells {w} {x} {q} {f} k h n = token-spells (by-id s p e k ∙ at-giving (num w) f s next ∙ ap (mapped f) h) n
 
@@ -145,7 +145,7 @@ module _ (s : List ℕ) (b : (j : ℕ) → Fits w8 (getD s j 0)) (p : ℕ) where
     float-arm g k (Lookup x q) h = absurd h
     float-arm {w} g k (F64 x q) h = go (at (num w) s next) refl h
       where
-        go : (a : Answer ℕ) → at (num w) s next ≡ a → mapped g a ≡ found x q → Token s p q (spell (F.F64 x))
+        go : (a : Answer ℕ) → at (num w) s next ≡ a → mapped g a ≡ found x q → SpeltToken s p q (spell (F.F64 x))
         go (found y q′) r h = let u : g y ≡ x = cc in let v : q′ ≡ q = cc in rw (← u, ← v) (value-spells k r refl)
         go (refused why) r h = never (cc)
 
@@ -173,7 +173,7 @@ run-none s p h = rw (between-none s p) (spells-none s p h)
 -- and a token after it
 module _ {s : List ℕ} {p e : ℕ} {r : Spelling} (a : Stand s p e) (t : Spelt s e r) where
   pub run-stands : {q : ℕ} → r ≡ Stands q → (e < q) × Stand s p q
-  run-stands {q} k = let u : Token s e q (between s e q) = rw k at t in (u .0, rw (← between-then s p e q (a .on) (u .1 .on)) (spells-then a (u .1)))
+  run-stands {q} k = let u : SpeltToken s e q (between s e q) = rw k at t in (u .0, rw (← between-then s p e q (a .on) (u .1 .on)) (spells-then a (u .1)))
 
   pub run-float : {x q : ℕ} → r ≡ F64 x q → Ran s p (R.F64 e x q)
   run-float k = (a, rw k at t)
@@ -183,10 +183,10 @@ module _ {s : List ℕ} {p e : ℕ} {r : Spelling} (a : Stand s p e) (t : Spelt 
 
 -- what a run's answer says
 module _ (s : List ℕ) (p : ℕ) {r : Run} (h : Ran s p r) where
-  pub ran-float : {e x q : ℕ} → r ≡ R.F64 e x q → Stand s p e × Token s e q (spell (F.F64 x))
+  pub ran-float : {e x q : ℕ} → r ≡ R.F64 e x q → Stand s p e × SpeltToken s e q (spell (F.F64 x))
   ran-float k = rw k at h
 
-  pub ran-lookup : {e x q : ℕ} → r ≡ R.Lookup e x q → Stand s p e × Token s e q (spell (F.Lookup x))
+  pub ran-lookup : {e x q : ℕ} → r ≡ R.Lookup e x q → Stand s p e × SpeltToken s e q (spell (F.Lookup x))
   ran-lookup k = rw k at h
 
   pub ran-otherwise : {e : ℕ} → r ≡ R.Otherwise e → Stand s p e

@@ -17,18 +17,18 @@ use Rattle.form.specs.Spelling.{spell, writable, wide}
 use Rattle.form.specs.Writing.{Output, unwritten, fitted, write, unless}
 use Rattle.form.proofs.LittleEndian.{drop-bytes}
 use Rattle.form.proofs.Sound.{Sound, token-sound}
-use Rattle.form.proofs.TextsLast.{texts, Ends}
+use Rattle.form.proofs.TextsLast.{ownText, Ends}
 use Rattle.form.proofs.Walking.{from}
 use Rattle.token.specs.declared.Token.{Token}
 use Rattle.token.specs.Tokens.{tokenOf, valueOf, tokenAt}
 use Rattle.token.proofs.Walks.{Read, token-read, token-is}
 use Rattle.writer.specs.Writes.{misplaced, writeToken}
-use Rattle.normaliser.specs.Parts.{gives, rest, Spells}
-use Rattle.normaliser.proofs.Parts.{gives-then}
+use Rattle.normaliser.specs.Stretches.{outputOf, rest, Spells}
+use Rattle.normaliser.proofs.Joining.{output-then}
 
 -- a string that was read stands in the bytes
 read-placed : (s : List ℕ) (v : F.Value) (e : ℕ) → Ends s v e → e ≤ length s → misplaced s (tokenOf e v) ≡ none
-unfolding misplaced tokenOf texts
+unfolding misplaced tokenOf ownText
 read-placed s F.Open e k h = refl
 read-placed s F.Close e k h = refl
 read-placed s F.Equal e k h = refl
@@ -68,7 +68,7 @@ read-spells {s} {p} {v} {n} b r w = record {
   on = omega (arith, r .on);
   there = r .there;
   short = read-sound b r .short;
-  is = ap gives (r .walks) ∙ gives-then p (n - p) v (from s n) w;
+  is = ap outputOf (r .walks) ∙ output-then p (n - p) v (from s n) w;
 }
 
 -- what the writer does with a token that `read_token` answers

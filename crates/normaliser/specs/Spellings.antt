@@ -1,4 +1,4 @@
--- What is said of a token's spelling, and of a run of tokens.
+-- No public promise goes through this file. What is said of a token's spelling, and of a run of tokens.
 use Prim.Native.Nat.{ℕ, _^_, _<_}
 use mathlib.Core.Path.{_≡_}
 use mathlib.Core.List.{List}
@@ -10,7 +10,7 @@ use Rattle.normaliser.specs.declared.spelling.Spelling.{Spelling}
 use Rattle.normaliser.specs.declared.spelling.Spelling.the-variants.{Stands, F64, Lookup, Otherwise}
 use Rattle.normaliser.specs.declared.spelling.Run.{Run}
 use Rattle.normaliser.specs.declared.spelling.Run.the-variants as R
-use Rattle.normaliser.specs.Parts.{Spells, between}
+use Rattle.normaliser.specs.Stretches.{Spells, between}
 
 -- ---- what follows an id
 
@@ -45,14 +45,14 @@ Indexes a Otherwise = Unit {0}
 -- ---- a token
 
 -- the token from p up to q is spelled bs
-abbrev pub Token : List ℕ → ℕ → ℕ → List ℕ → Type 0
-Token s p q bs = (p < q) × Spells s p q bs
+abbrev pub SpeltToken : List ℕ → ℕ → ℕ → List ℕ → Type 0
+SpeltToken s p q bs = (p < q) × Spells s p q bs
 
 -- the token at p is spelled so
 abbrev pub Spelt : List ℕ → ℕ → Spelling → Type 0
-Spelt s p (Stands q) = Token s p q (between s p q)
-Spelt s p (F64 x q) = Token s p q (spell (F.F64 x))
-Spelt s p (Lookup x q) = Token s p q (spell (F.Lookup x))
+Spelt s p (Stands q) = SpeltToken s p q (between s p q)
+Spelt s p (F64 x q) = SpeltToken s p q (spell (F.F64 x))
+Spelt s p (Lookup x q) = SpeltToken s p q (spell (F.Lookup x))
 Spelt s p Otherwise = Unit {0}
 
 -- and so is one whose id i ends at q
@@ -65,6 +65,6 @@ abbrev pub Stand : List ℕ → ℕ → ℕ → Type 0
 Stand s p e = Spells s p e (between s p e)
 
 abbrev pub Ran : List ℕ → ℕ → Run → Type 0
-Ran s p (R.F64 e x q) = Stand s p e × Token s e q (spell (F.F64 x))
-Ran s p (R.Lookup e x q) = Stand s p e × Token s e q (spell (F.Lookup x))
+Ran s p (R.F64 e x q) = Stand s p e × SpeltToken s e q (spell (F.F64 x))
+Ran s p (R.Lookup e x q) = Stand s p e × SpeltToken s e q (spell (F.Lookup x))
 Ran s p (R.Otherwise e) = Stand s p e

@@ -1,7 +1,7 @@
-pub mod Laws
+pub mod LetElse
 pub mod Signed
 pub mod Rests
-pub mod Parts
+pub mod HighestFirst
 pub mod Cutting
 pub mod Texts
 pub mod Unique

@@ -12,7 +12,7 @@ use Rattle.form.specs.Reading.{rgb, payload}
 use Rattle.form.proofs.Never.{never}
 use Rattle.form.proofs.Found.{All, payload-in}
 use Rattle.split.specs.Splits.{restOf}
-use Rattle.split.proofs.Laws.{rest-drop}
+use Rattle.split.proofs.Enough.{rest-drop}
 
 at-first : {A : Type 0} (f : Reader A) (s : List ℕ) (p : ℕ) → further p (at f (drop p s) 0) ≡ at f s p
 unfolding at further

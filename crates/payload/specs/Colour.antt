@@ -1,4 +1,4 @@
--- A colour's channel: an id and a number.
+-- No public promise goes through this file. A colour's channel: an id and a number.
 use Rattle.form.specs.Readers.{Answer, found, refused}
 use Rattle.form.specs.Reading.{Channel as Form-Channel}
 use Rattle.payload.specs.Answers.{faultOf}

@@ -1,4 +1,4 @@
--- The walk as the code goes it: with an id just read, and over at depth 0.
+-- No public promise goes through this file. The walk as the code goes it: with an id just read, and over at depth 0.
 use Prim.Native.Nat.{ℕ, _+_, _*_, _≤_}
 use mathlib.Core.Path.{_≡_}
 use mathlib.Core.Option.{Option, none, some}

@@ -16,7 +16,7 @@ use Rattle.source.specs.declared.Check.{Check}
 use Rattle.source.specs.declared.Check.the-variants.{Fine, Bad}
 use Rattle.source.specs.declared.reads.Reads.{Reads}
 use Rattle.source.specs.Reads.{one, fill}
-use Rattle.source.specs.Window.{unread, unreadIn, heldIn, checked, checkedIn, past, landed, landedIn, Step, gives, refuses, Call, fitting, ifFine, ifGiven, toppedBy, topped, ensured, onceBy, once, refilled, advanced, window, windowLen, windowOf}
+use Rattle.source.specs.Window.{unread, unreadIn, heldIn, checked, checkedIn, past, filled, filledIn, Drawn, drawn, halted, Draw, fitting, ifFine, ifGiven, toppedBy, topped, ensured, onceBy, once, refilled, advanced, window, windowLen, windowOf}
 use Rattle.source.specs.Good.{Good}
 use Rattle.source.proofs.Stores.{sets-then}
 use Rattle.source.proofs.Filling.{Within, one-within, fill-within}
@@ -30,24 +30,24 @@ module _ (supply schedule : List ℕ) (s : ParserSource) (buffer : List ℕ) whe
   slice-checked t = ap (λ (b : Bool). checked s (length (pick b buffer supply)) (length supply) (length schedule)) t
 
   -- a number that does not fit
-  unfit : {A : Type 0} (f : Call A) {p : ℕ} → checkedIn supply schedule s buffer ≡ Bad p → fitting supply schedule f s buffer ≡ refuses (BadPlace p) s buffer
+  unfit : {A : Type 0} (f : Draw A) {p : ℕ} → checkedIn supply schedule s buffer ≡ Bad p → fitting supply schedule f s buffer ≡ halted (BadPlace p) s buffer
   unfolding fitting ifFine
   unfit f e = rw e
 
   module _ {p : ℕ} (e : checkedIn supply schedule s buffer ≡ Bad p) where
-    pub ensured-bad : (n : ℕ) → ensured supply schedule n s buffer ≡ refuses (BadPlace p) s buffer
+    pub ensured-bad : (n : ℕ) → ensured supply schedule n s buffer ≡ halted (BadPlace p) s buffer
     unfolding ensured
     ensured-bad n = unfit _ e
 
-    pub refilled-bad : refilled supply schedule s buffer ≡ refuses (BadPlace p) s buffer
+    pub refilled-bad : refilled supply schedule s buffer ≡ halted (BadPlace p) s buffer
     unfolding refilled
     refilled-bad = unfit _ e
 
-    pub advanced-bad : (n : ℕ) → advanced supply schedule n s buffer ≡ refuses (BadPlace p) s buffer
+    pub advanced-bad : (n : ℕ) → advanced supply schedule n s buffer ≡ halted (BadPlace p) s buffer
     unfolding advanced
     advanced-bad n = unfit _ e
 
-    pub window-len-bad : windowLen supply schedule s buffer ≡ refuses (BadPlace p) s buffer
+    pub window-len-bad : windowLen supply schedule s buffer ≡ halted (BadPlace p) s buffer
     unfolding windowLen
     window-len-bad = unfit _ e
 
@@ -57,7 +57,7 @@ module _ (supply schedule : List ℕ) (s : ParserSource) (buffer : List ℕ) whe
 
   -- all of them fit
   module _ (e : checkedIn supply schedule s buffer ≡ Fine) where
-    pub fit : {A : Type 0} (f : Call A) → fitting supply schedule f s buffer ≡ f s buffer
+    pub fit : {A : Type 0} (f : Draw A) → fitting supply schedule f s buffer ≡ f s buffer
     unfolding fitting ifFine
     fit f = rw e
 
@@ -71,16 +71,16 @@ module _ (supply schedule : List ℕ) (s : ParserSource) (buffer : List ℕ) whe
     ordered = held .ordered
 
     module _ (n : ℕ) where
-      pub ensured-enough : n ≤ unread s → ensured supply schedule n s buffer ≡ gives tt s buffer
+      pub ensured-enough : n ≤ unread s → ensured supply schedule n s buffer ≡ drawn tt s buffer
       unfolding ensured
       ensured-enough h = fit _ ∙ rw (le-leb _ _ h)
 
       module _ (h : unread s < n) where
-        pub ensured-slice : s .streaming ≡ false → ensured supply schedule n s buffer ≡ refuses (Eof (s .position)) s buffer
+        pub ensured-slice : s .streaming ≡ false → ensured supply schedule n s buffer ≡ halted (Eof (s .position)) s buffer
         unfolding ensured
         ensured-slice t = fit _ ∙ rw (lt-leb _ _ h, t)
 
-        pub ensured-small : s .streaming ≡ true → length buffer < n → ensured supply schedule n s buffer ≡ refuses (BufferTooSmall (s .position)) s buffer
+        pub ensured-small : s .streaming ≡ true → length buffer < n → ensured supply schedule n s buffer ≡ halted (BufferTooSmall (s .position)) s buffer
         unfolding ensured
         ensured-small t o = fit _ ∙ rw (lt-leb _ _ h, t, lt-leb _ _ o)
 
@@ -88,19 +88,19 @@ module _ (supply schedule : List ℕ) (s : ParserSource) (buffer : List ℕ) whe
         unfolding ensured
         ensured-go t o = fit _ ∙ rw (lt-leb _ _ h, t, le-leb _ _ o)
 
-      pub advanced-on : n ≤ unread s → advanced supply schedule n s buffer ≡ gives true (past n s) buffer
+      pub advanced-on : n ≤ unread s → advanced supply schedule n s buffer ≡ drawn true (past n s) buffer
       unfolding advanced
       advanced-on h = fit _ ∙ rw (le-leb _ _ h)
 
-      pub advanced-not : unread s < n → advanced supply schedule n s buffer ≡ gives false s buffer
+      pub advanced-not : unread s < n → advanced supply schedule n s buffer ≡ drawn false s buffer
       unfolding advanced
       advanced-not h = fit _ ∙ rw (lt-leb _ _ h)
 
-    pub refilled-slice : s .streaming ≡ false → refilled supply schedule s buffer ≡ gives 0 s buffer
+    pub refilled-slice : s .streaming ≡ false → refilled supply schedule s buffer ≡ drawn 0 s buffer
     unfolding refilled
     refilled-slice t = fit _ ∙ rw t
 
-    pub refilled-small : s .streaming ≡ true → length buffer ≤ unread s → refilled supply schedule s buffer ≡ refuses (BufferTooSmall (s .position)) s buffer
+    pub refilled-small : s .streaming ≡ true → length buffer ≤ unread s → refilled supply schedule s buffer ≡ halted (BufferTooSmall (s .position)) s buffer
     unfolding refilled
     refilled-small t o = fit _ ∙ rw (t, le-leb _ _ o)
 
@@ -108,7 +108,7 @@ module _ (supply schedule : List ℕ) (s : ParserSource) (buffer : List ℕ) whe
     unfolding refilled
     refilled-go t o = fit _ ∙ rw (t, lt-leb _ _ o)
 
-    pub window-len : windowLen supply schedule s buffer ≡ gives (unread s) s buffer
+    pub window-len : windowLen supply schedule s buffer ≡ drawn (unread s) s buffer
     unfolding windowLen
     window-len = fit _
 
@@ -119,11 +119,11 @@ module _ (supply schedule : List ℕ) (s : ParserSource) (buffer : List ℕ) whe
 -- the unread bytes are moved, d; reads give r and leave the buffer at `last`
 module _ (supply schedule : List ℕ) (s : ParserSource) (buffer : List ℕ) (g : Good s (length buffer) (length supply) (length schedule))
     (d last : List ℕ) (r : Reads) (next : ParserSource) (hd : d ≡ sets buffer 0 (unreadIn s buffer))
-    (hl : last ≡ sets d (unread s) (take (r .got) (drop (s .supply) supply))) (hn : next ≡ landed s r) where
+    (hl : last ≡ sets d (unread s) (take (r .got) (drop (s .supply) supply))) (hn : next ≡ filled s r) where
   long : length d ≡ length buffer
   long = ap length hd ∙ length-sets buffer 0 (unreadIn s buffer)
 
-  bytes : last ≡ landedIn supply s r buffer
+  bytes : last ≡ filledIn supply s r buffer
   bytes =
       let w = part-length buffer (s .start) (unread s) (omega (arith, g)) in
       hl ∙ ap (λ (l : List ℕ). sets l (unread s) (take (r .got) (drop (s .supply) supply))) hd
@@ -134,15 +134,15 @@ module _ (supply schedule : List ℕ) (s : ParserSource) (buffer : List ℕ) (g 
     unfolding topped
     all = ap (toppedBy supply n s buffer) (sym (rw long at hr))
 
-    pub topped-failed : r .failed ≡ true → refuses (ReadFailed (s .position)) next last ≡ topped supply schedule n s buffer
+    pub topped-failed : r .failed ≡ true → halted (ReadFailed (s .position)) next last ≡ topped supply schedule n s buffer
     unfolding toppedBy
     topped-failed h = sym (all ∙ rw (h, ← hn, ← bytes))
 
-    pub topped-short : r .failed ≡ false → next .end < n → refuses (Eof (s .position)) next last ≡ topped supply schedule n s buffer
+    pub topped-short : r .failed ≡ false → next .end < n → halted (Eof (s .position)) next last ≡ topped supply schedule n s buffer
     unfolding toppedBy
     topped-short h o = sym (all ∙ rw (h, lt-leb n (unread s + r .got) (omega (arith, ap (λ (x : ParserSource). x .end) hn)), ← hn, ← bytes))
 
-    pub topped-ready : r .failed ≡ false → n ≤ next .end → gives tt next last ≡ topped supply schedule n s buffer
+    pub topped-ready : r .failed ≡ false → n ≤ next .end → drawn tt next last ≡ topped supply schedule n s buffer
     unfolding toppedBy
     topped-ready h o = sym (all ∙ rw (h, le-leb n (unread s + r .got) (omega (arith, ap (λ (x : ParserSource). x .end) hn)), ← hn, ← bytes))
 
@@ -151,11 +151,11 @@ module _ (supply schedule : List ℕ) (s : ParserSource) (buffer : List ℕ) (g 
     unfolding once
     single = ap (onceBy supply s buffer) (sym (rw long at hr))
 
-    pub once-failed : r .failed ≡ true → refuses (ReadFailed (s .position)) next last ≡ once supply schedule s buffer
+    pub once-failed : r .failed ≡ true → halted (ReadFailed (s .position)) next last ≡ once supply schedule s buffer
     unfolding onceBy
     once-failed h = sym (single ∙ rw (h, ← hn, ← bytes))
 
-    pub once-read : r .failed ≡ false → gives (r .got) next last ≡ once supply schedule s buffer
+    pub once-read : r .failed ≡ false → drawn (r .got) next last ≡ once supply schedule s buffer
     unfolding onceBy
     once-read h = sym (single ∙ rw (h, ← hn, ← bytes))
 
@@ -169,8 +169,8 @@ module _ (s : ParserSource) (held supply : ℕ) (schedule : List ℕ) where
 
 -- ---- what holds in each case holds of what is left
 
-module _ {A : Type 0} (P : Step A → Type 0) where
-  by-test : (b : Bool) (x y : Step A) → (b ≡ true → P x) → (b ≡ false → P y) → P (pick b x y)
+module _ {A : Type 0} (P : Drawn A → Type 0) where
+  by-test : (b : Bool) (x y : Drawn A) → (b ≡ true → P x) → (b ≡ false → P y) → P (pick b x y)
   by-test true x y f g = f refl
   by-test false x y f g = g refl
 
@@ -178,7 +178,7 @@ module _ (supply schedule : List ℕ) (s : ParserSource) (buffer : List ℕ) whe
   abbrev pub Fits : Type 0
   Fits = checkedIn supply schedule s buffer ≡ Fine
 
-  pub by-check : {A : Type 0} (P : Step A → Type 0) (f : Call A) → ((p : ℕ) → P (refuses (BadPlace p) s buffer)) → (Fits → P (f s buffer)) → P (fitting supply schedule f s buffer)
+  pub by-check : {A : Type 0} (P : Drawn A → Type 0) (f : Draw A) → ((p : ℕ) → P (halted (BadPlace p) s buffer)) → (Fits → P (f s buffer)) → P (fitting supply schedule f s buffer)
   unfolding fitting ifFine
   by-check P f bad fine = go (checkedIn supply schedule s buffer) refl
     where
@@ -186,14 +186,14 @@ module _ (supply schedule : List ℕ) (s : ParserSource) (buffer : List ℕ) whe
       go Fine e = fine e
       go (Bad p) e = bad p
 
-  module _ (n : ℕ) (P : Step (Unit {0}) → Type 0) (bad : (p : ℕ) → P (refuses (BadPlace p) s buffer))
-      (enough : Fits → n ≤ unread s → P (gives tt s buffer)) (none : Fits → (e : Refusal) → P (refuses e s buffer)) where
+  module _ (n : ℕ) (P : Drawn (Unit {0}) → Type 0) (bad : (p : ℕ) → P (halted (BadPlace p) s buffer))
+      (enough : Fits → n ≤ unread s → P (drawn tt s buffer)) (none : Fits → (e : Refusal) → P (halted e s buffer)) where
     abbrev all-of : Reads
     all-of = fill (length buffer - unread s) (length supply - s .supply) (drop (s .schedule) schedule)
 
     -- `ensure_bytes`
-    pub ensured-by : (Fits → s .streaming ≡ true → (e : Refusal) → P (refuses e (landed s all-of) (landedIn supply s all-of buffer)))
-        → (Fits → s .streaming ≡ true → n ≤ unread s + all-of .got → P (gives tt (landed s all-of) (landedIn supply s all-of buffer)))
+    pub ensured-by : (Fits → s .streaming ≡ true → (e : Refusal) → P (halted e (filled s all-of) (filledIn supply s all-of buffer)))
+        → (Fits → s .streaming ≡ true → n ≤ unread s + all-of .got → P (drawn tt (filled s all-of) (filledIn supply s all-of buffer)))
         → P (ensured supply schedule n s buffer)
     unfolding ensured topped toppedBy
     ensured-by stopped ready =
@@ -205,14 +205,14 @@ module _ (supply schedule : List ℕ) (s : ParserSource) (buffer : List ℕ) whe
         (λ o. none e _))
         (λ t. none e _)))
 
-  module _ (P : Step ℕ → Type 0) (bad : (p : ℕ) → P (refuses (BadPlace p) s buffer)) (none : Fits → P (gives 0 s buffer))
-      (small : Fits → (e : Refusal) → P (refuses e s buffer)) where
+  module _ (P : Drawn ℕ → Type 0) (bad : (p : ℕ) → P (halted (BadPlace p) s buffer)) (none : Fits → P (drawn 0 s buffer))
+      (small : Fits → (e : Refusal) → P (halted e s buffer)) where
     abbrev first-of : Reads
     first-of = one (length buffer - unread s) (length supply - s .supply) (drop (s .schedule) schedule)
 
     -- `refill`
-    pub refilled-by : (Fits → s .streaming ≡ true → (e : Refusal) → P (refuses e (landed s first-of) (landedIn supply s first-of buffer)))
-        → (Fits → s .streaming ≡ true → P (gives (first-of .got) (landed s first-of) (landedIn supply s first-of buffer)))
+    pub refilled-by : (Fits → s .streaming ≡ true → (e : Refusal) → P (halted e (filled s first-of) (filledIn supply s first-of buffer)))
+        → (Fits → s .streaming ≡ true → P (drawn (first-of .got) (filled s first-of) (filledIn supply s first-of buffer)))
         → P (refilled supply schedule s buffer)
     unfolding refilled once onceBy
     refilled-by stopped ready =
@@ -222,9 +222,9 @@ module _ (supply schedule : List ℕ) (s : ParserSource) (buffer : List ℕ) whe
         (λ t. none e))
 
 -- the state after reads fits where the state before did
-pub landed-good : (s : ParserSource) (held supply schedule : ℕ) (r : Reads) → Good s held supply schedule
-    → Within (held - unread s) (supply - s .supply) (schedule - s .schedule) r → Good (landed s r) held supply schedule
-landed-good s held supply schedule r g w = record {
+pub filled-good : (s : ParserSource) (held supply schedule : ℕ) (r : Reads) → Good s held supply schedule
+    → Within (held - unread s) (supply - s .supply) (schedule - s .schedule) r → Good (filled s r) held supply schedule
+filled-good s held supply schedule r g w = record {
   ordered = omega arith;
   within = omega (arith, g, w);
   supplied = omega (arith, g, w);
@@ -248,14 +248,14 @@ module _ (supply schedule : List ℕ) (s : ParserSource) (buffer : List ℕ) (n 
     pub good : Good t (length (heldIn supply t b)) (length supply) (length schedule)
     pub there : n ≤ unread t
 
-  abbrev IfReady : Step (Unit {0}) → Type 0
-  IfReady (gives a t b) = Ready t b
-  IfReady (refuses e t b) = Unit {0}
+  abbrev IfReady : Drawn (Unit {0}) → Type 0
+  IfReady (drawn a t b) = Ready t b
+  IfReady (halted e t b) = Unit {0}
 
-  pub landed-held : s .streaming ≡ true → (r : Reads) → length (heldIn supply (landed s r) (landedIn supply s r buffer)) ≡ length buffer
-  landed-held t r = rw t (length-sets buffer 0 (unreadIn s buffer ++ take (r .got) (drop (s .supply) supply)))
+  pub filled-held : s .streaming ≡ true → (r : Reads) → length (heldIn supply (filled s r) (filledIn supply s r buffer)) ≡ length buffer
+  filled-held t r = rw t (length-sets buffer 0 (unreadIn s buffer ++ take (r .got) (drop (s .supply) supply)))
 
-  pub ready : {t : ParserSource} {b : List ℕ} → ensured supply schedule n s buffer ≡ gives tt t b → Ready t b
+  pub ready : {t : ParserSource} {b : List ℕ} → ensured supply schedule n s buffer ≡ drawn tt t b → Ready t b
   ready e = subst IfReady e (ensured-by supply schedule s buffer n IfReady (λ p. tt)
       (λ f h. record { good = held supply schedule s buffer f; there = h })
       (λ f x. tt)
@@ -263,6 +263,6 @@ module _ (supply schedule : List ℕ) (s : ParserSource) (buffer : List ℕ) (n 
       (λ f t h.
       let r = fill (length buffer - unread s) (length supply - s .supply) (drop (s .schedule) schedule) in
       record {
-        good = rw (landed-held t r) (landed-good s (length buffer) (length supply) (length schedule) r (sound supply schedule s buffer f t) (fill-fits s (length buffer) (length supply) schedule));
+        good = rw (filled-held t r) (filled-good s (length buffer) (length supply) (length schedule) r (sound supply schedule s buffer f t) (fill-fits s (length buffer) (length supply) schedule));
         there = omega (arith, h);
       }))

@@ -7,7 +7,7 @@ use lib.ListN.{length, take, drop, length-append, take-append-drop}
 use lib.Seq.{length-take-le}
 use Rattle.form.specs.Numbers.{MAX}
 use Rattle.source.specs.declared.ParserSource.{ParserSource}
-use Rattle.source.specs.Window.{newStream, newSlice, Step, gives, refuses}
+use Rattle.source.specs.Window.{newStream, newSlice, Drawn, drawn, halted}
 use Rattle.source.specs.Runs.{Ask, ensure-bytes, advance, take-next, try-take, peek, refill, window-len, read-bstr, read-lexeme-id, peek-lexeme-id, read-rgb, ahead, World, passed, leaving, asked, run, fresh, Conserved}
 use Rattle.source.proofs.Kept.{Sound, Kept, Keeps, ensured-keeps, refilled-keeps, advanced-keeps, window-len-keeps, taken-keeps, tried-keeps, peeked-keeps, number-keeps, peeked-id-keeps, string-keeps, colour-keeps}
 
@@ -33,10 +33,10 @@ module _ (supply schedule : List ℕ) where
         };
       }
 
-  step : {A : Type 0} (w : World) (x : Step A) → Between w → Keeps supply schedule (w .state) (w .buffer) x → Between (leaving supply w x)
+  step : {A : Type 0} (w : World) (x : Drawn A) → Between w → Keeps supply schedule (w .state) (w .buffer) x → Between (leaving supply w x)
   unfolding leaving
-  step w (gives a t b) c k = on w t b c k
-  step w (refuses r t b) c k = on w t b c k
+  step w (drawn a t b) c k = on w t b c k
+  step w (halted r t b) c k = on w t b c k
 
   call : (q : Ask) (w : World) → Between w → Between (asked supply schedule q w)
   unfolding asked

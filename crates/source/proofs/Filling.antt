@@ -82,12 +82,12 @@ module _ (room left : ℕ) (es : List ℕ) where
   past m false true hp hq e = refl
   past m false false hp hq e = let z : m ≡ m + min (room - m) (left - m) = omega arith in ap (λ (k : ℕ). came k 0 false) z
 
-  abbrev pub Step : Type 0
-  Step =
+  abbrev pub FillsOn : Type 0
+  FillsOn =
       fill room left es
       ≡ pick (eqb room 0) (came 0 0 false) (onward (one room left es) (fill (room - one room left es .got) (left - one room left es .got) (drop (one room left es .used) es)))
 
-pub fill-step : (room left : ℕ) (es : List ℕ) → Step room left es
+pub fill-step : (room left : ℕ) (es : List ℕ) → FillsOn room left es
 unfolding fill one
 fill-step room left [] = past room left [] (min room left) (eqb room 0) (eqb (min room left) 0) refl refl refl
 fill-step room left (e ∷ es) = rw (one-line room left e es)
@@ -101,8 +101,8 @@ sub-more n a g m = omega arith
 -- ---- the loop of reads: what holds at its head, and what each way on makes of it
 
 -- after got bytes by used entries, more came
-abbrev pub after : ℕ → ℕ → Reads → Reads
-after got used r = came (got + r .got) (used + r .used) (r .failed)
+abbrev pub andMore : ℕ → ℕ → Reads → Reads
+andMore got used r = came (got + r .got) (used + r .used) (r .failed)
 
 module _ (buffer₀ supply schedule : List ℕ) (at from entry : ℕ) where
   -- what the reads give from where they stand
@@ -117,7 +117,7 @@ module _ (buffer₀ supply schedule : List ℕ) (at from entry : ℕ) where
     pub room : at + got ≤ length buffer₀
     pub left : from + got ≤ length supply
     pub lines : entry + used ≤ length schedule
-    pub more : after got used (rest got used) ≡ all
+    pub more : andMore got used (rest got used) ≡ all
     pub bytes : buffer ≡ sets buffer₀ at (take got (drop from supply))
 
   pub begins : at ≤ length buffer₀ → from ≤ length supply → entry ≤ length schedule → Going buffer₀ 0 0
@@ -136,7 +136,7 @@ module _ (buffer₀ supply schedule : List ℕ) (at from entry : ℕ) where
         let z : length buffer₀ - (at + got) ≡ 0 = omega (arith, long) in
         let s = fill-step (length buffer₀ - (at + got)) (length supply - (from + got)) (drop (entry + used) schedule) in
         let r : rest got used ≡ came 0 0 false = rw (eq-eqb _ _ z) at s in
-        let e : after got used (rest got used) ≡ came got used false = rw (r, add-zero got, add-zero used) in
+        let e : andMore got used (rest got used) ≡ came got used false = rw (r, add-zero got, add-zero used) in
         (sym e ∙ g .more, g .bytes)
 
     -- after a read that gave r and left the buffer at `last`
@@ -160,7 +160,7 @@ module _ (buffer₀ supply schedule : List ℕ) (at from entry : ℕ) where
       pub none : r .got ≡ 0 → Ends (came got (used + r .used) (r .failed)) last
       none z =
           let x : rest got used ≡ r = rw (eq-eqb _ _ z) at step in
-          let y : after got used (rest got used) ≡ came got (used + r .used) (r .failed) = rw (x, z, add-zero got) in
+          let y : andMore got used (rest got used) ≡ came got (used + r .used) (r .failed) = rw (x, z, add-zero got) in
           (sym y ∙ g .more, rw (z) at w ∙ g .bytes)
 
       pub goes : (r .got ≡ 0 → ⊥) → Going last (got + r .got) (used + r .used)
@@ -171,12 +171,12 @@ module _ (buffer₀ supply schedule : List ℕ) (at from entry : ℕ) where
           let b = sub-more (length supply) from got (r .got) in
           let d : drop (r .used) (drop (entry + used) schedule) ≡ drop (entry + (used + r .used)) schedule =
           drop-drop (r .used) (entry + used) schedule ∙ ap (λ (k : ℕ). drop k schedule) (add-assoc entry used (r .used)) in
-          let x : rest got used ≡ after (r .got) (r .used) (rest (got + r .got) (used + r .used)) = rw (ne-eqb _ _ n, a, b, d) at step in
+          let x : rest got used ≡ andMore (r .got) (r .used) (rest (got + r .got) (used + r .used)) = rw (ne-eqb _ _ n, a, b, d) at step in
           record {
             room = room-left at got (r .got) (length buffer₀) (g .room) (v .fits);
             left = room-left from got (r .got) (length supply) (g .left) (v .there);
             lines = room-left entry used (r .used) (length schedule) (g .lines) (v .lines);
-            more = rw (add-assoc got (r .got), add-assoc used (r .used)) (ap (after got used) (sym x) ∙ g .more);
+            more = rw (add-assoc got (r .got), add-assoc used (r .used)) (ap (andMore got used) (sym x) ∙ g .more);
             bytes =
                 w ∙ ap (λ (o : List ℕ). sets o (at + got) (take (r .got) (drop (from + got) supply))) (g .bytes)
                 ∙ sets-then (take got (drop from supply)) (take (r .got) (drop (from + got) supply)) buffer₀ at (at + got) (omega (arith, l))

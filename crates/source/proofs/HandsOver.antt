@@ -10,7 +10,7 @@ use Rattle.form.proofs.Runs.{part-length}
 use Rattle.payload.specs.declared.answers.Text.{Text}
 use Rattle.payload.proofs.Texts.{within}
 use Rattle.source.specs.declared.ParserSource.{ParserSource}
-use Rattle.source.specs.Window.{unread, past, Step, gives, refuses, andThen, _then_, textAt, heldIn, textIn, window, ensured, taken}
+use Rattle.source.specs.Window.{unread, past, Drawn, drawn, halted, drawnThen, _then_, textAt, heldIn, textIn, window, ensured, taken}
 use Rattle.source.specs.Binary.{spelledAt, number}
 use Rattle.source.specs.Runs.{ahead}
 use Rattle.source.proofs.Cases.{held, ensured-by, ready}
@@ -30,11 +30,11 @@ module _ (supply schedule : List ℕ) (s : ParserSource) (buffer : List ℕ) (n 
     fits : Sound supply schedule s buffer
     there : t .position ≡ s .position
 
-  abbrev IfStayed : Step (Unit {0}) → Type 0
-  IfStayed (gives a t b) = Stayed t
-  IfStayed (refuses r t b) = Unit {0}
+  abbrev IfStayed : Drawn (Unit {0}) → Type 0
+  IfStayed (drawn a t b) = Stayed t
+  IfStayed (halted r t b) = Unit {0}
 
-  stayed : {t : ParserSource} {b : List ℕ} → ensured supply schedule n s buffer ≡ gives tt t b → Stayed t
+  stayed : {t : ParserSource} {b : List ℕ} → ensured supply schedule n s buffer ≡ drawn tt t b → Stayed t
   stayed e =
       subst IfStayed e (ensured-by supply schedule s buffer n IfStayed (λ p. tt)
       (λ f h. record { fits = held supply schedule s buffer f; there = refl })
@@ -42,44 +42,44 @@ module _ (supply schedule : List ℕ) (s : ParserSource) (buffer : List ℕ) (n 
       (λ f t x. tt)
       (λ f t h. record { fits = held supply schedule s buffer f; there = refl }))
 
-  pub ensured-position : {t : ParserSource} {b : List ℕ} → ensured supply schedule n s buffer ≡ gives tt t b → t .position ≡ s .position
+  pub ensured-position : {t : ParserSource} {b : List ℕ} → ensured supply schedule n s buffer ≡ drawn tt t b → t .position ≡ s .position
   ensured-position e = stayed e .there
 
   -- so the bytes to come stay
-  pub ensured-ahead : {t : ParserSource} {b : List ℕ} → ensured supply schedule n s buffer ≡ gives tt t b → ahead supply t b ≡ ahead supply s buffer
+  pub ensured-ahead : {t : ParserSource} {b : List ℕ} → ensured supply schedule n s buffer ≡ drawn tt t b → ahead supply t b ≡ ahead supply s buffer
   ensured-ahead {t} {b} e =
       let w = stayed e in
-      let k : Keeps supply schedule s buffer (gives (tt {0}) t b) = rw e at (ensured-keeps supply schedule n s buffer (w .fits)) in
+      let k : Keeps supply schedule s buffer (drawn (tt {0}) t b) = rw e at (ensured-keeps supply schedule n s buffer (w .fits)) in
       sym (k .same) ∙ rw (w .there) (drop-none (ahead supply s buffer) (s .position))
 
   -- the bytes at the start of the window are the first to come
-  pub ensured-front : {t : ParserSource} {b : List ℕ} → ensured supply schedule n s buffer ≡ gives tt t b → take n (drop (t .start) (heldIn supply t b)) ≡ take n (ahead supply s buffer)
+  pub ensured-front : {t : ParserSource} {b : List ℕ} → ensured supply schedule n s buffer ≡ drawn tt t b → take n (drop (t .start) (heldIn supply t b)) ≡ take n (ahead supply s buffer)
   ensured-front {t} {b} e = let w = ready supply schedule s buffer n e in front supply schedule n t b (w .good) (w .there) ∙ ap (take n) (ensured-ahead e)
 
   -- what `take` hands over
-  pub taken-bytes : {t : Text} {u : ParserSource} {b : List ℕ} → taken supply schedule n s buffer ≡ gives t u b → textIn supply t u b ≡ take n (ahead supply s buffer)
-  unfolding taken _then_ andThen
+  pub taken-bytes : {t : Text} {u : ParserSource} {b : List ℕ} → taken supply schedule n s buffer ≡ drawn t u b → textIn supply t u b ≡ take n (ahead supply s buffer)
+  unfolding taken _then_ drawnThen
   taken-bytes {t} {u} {b} e = by (ensured supply schedule n s buffer) refl e
     where
-      by : (x : Step (Unit {0})) → ensured supply schedule n s buffer ≡ x → andThen x (λ _ v m. gives (textAt (v .start) n) (past n v) m) ≡ gives t u b
+      by : (x : Drawn (Unit {0})) → ensured supply schedule n s buffer ≡ x → drawnThen x (λ _ v m. drawn (textAt (v .start) n) (past n v) m) ≡ drawn t u b
           → textIn supply t u b ≡ take n (ahead supply s buffer)
-      by (gives a v m) q h =
+      by (drawn a v m) q h =
           let z : textAt (v .start) n ≡ t = cc in
           let y : past n v ≡ u = cc in
           let x : m ≡ b = cc in
           let w = ready supply schedule s buffer n q in
           rw (← z, ← y, ← x, within (heldIn supply v m) (textAt (v .start) n) (omega (arith, w .good, w .there))) (ensured-front q)
-      by (refuses r v m) q h = cc
+      by (halted r v m) q h = cc
 
   -- and the number that is read
-  pub number-bytes : {i : ℕ} {u : ParserSource} {b : List ℕ} → number supply schedule n s buffer ≡ gives i u b → i ≡ le (take n (ahead supply s buffer))
-  unfolding number taken _then_ andThen
+  pub number-bytes : {i : ℕ} {u : ParserSource} {b : List ℕ} → number supply schedule n s buffer ≡ drawn i u b → i ≡ le (take n (ahead supply s buffer))
+  unfolding number taken _then_ drawnThen
   number-bytes {i} {u} {b} e = by (ensured supply schedule n s buffer) refl e
     where
-      by : (x : Step (Unit {0})) → ensured supply schedule n s buffer ≡ x
-          → andThen (andThen x (λ _ v m. gives (textAt (v .start) n) (past n v) m)) (λ t v m. gives (spelledAt supply n v (t .start) m) v m) ≡ gives i u b
+      by : (x : Drawn (Unit {0})) → ensured supply schedule n s buffer ≡ x
+          → drawnThen (drawnThen x (λ _ v m. drawn (textAt (v .start) n) (past n v) m)) (λ t v m. drawn (spelledAt supply n v (t .start) m) v m) ≡ drawn i u b
           → i ≡ le (take n (ahead supply s buffer))
-      by (gives a v m) q h =
+      by (drawn a v m) q h =
           let z : spelledAt supply n (past n v) (v .start) m ≡ i = cc in
           sym z ∙ ap le (ensured-front q)
-      by (refuses r v m) q h = cc
+      by (halted r v m) q h = cc

@@ -17,13 +17,13 @@ use Rattle.form.proofs.Runs.{part-length}
 use Rattle.payload.specs.declared.answers.Text.{Text}
 use Rattle.source.specs.declared.ParserSource.{ParserSource}
 use Rattle.source.specs.declared.reads.Reads.{Reads}
-use Rattle.source.specs.Window.{unread, unreadIn, past, landed, Step, gives, refuses, Call, andThen, _then_, optional, textAt, heldIn, window, landedIn, ensured, refilled, advanced, windowLen, taken, tried, peeked}
+use Rattle.source.specs.Window.{unread, unreadIn, past, filled, Drawn, drawn, halted, Draw, drawnThen, _then_, attempted, textAt, heldIn, window, filledIn, ensured, refilled, advanced, windowLen, taken, tried, peeked}
 use Rattle.source.specs.Good.{Good}
 use Rattle.source.specs.Binary.{invalid, number, id, peekedId, stringOf, string, expected, channel, withAlpha, endedBy, ending, channels, colour}
 use Rattle.source.specs.Runs.{ahead}
 use Rattle.source.proofs.Stores.{take-sets}
 use Rattle.source.proofs.Filling.{Within}
-use Rattle.source.proofs.Cases.{sound, by-check, ensured-by, refilled-by, landed-good, past-good, ready, fill-fits, one-fits}
+use Rattle.source.proofs.Cases.{sound, by-check, ensured-by, refilled-by, filled-good, past-good, ready, fill-fits, one-fits}
 
 -- ---- lists of what is to come
 
@@ -87,7 +87,7 @@ module _ (supply schedule : List ℕ) where
 
   -- the unread bytes are moved to the front, and reads come behind them
   landing : (r : Reads) {s : ParserSource} {buffer : List ℕ} → s .streaming ≡ true → Good s (length buffer) (length supply) (length schedule)
-      → Within (length buffer - unread s) (length supply - s .supply) (length schedule - s .schedule) r → Kept s buffer (landed s r) (landedIn supply s r buffer)
+      → Within (length buffer - unread s) (length supply - s .supply) (length schedule - s .schedule) r → Kept s buffer (filled s r) (filledIn supply s r buffer)
   landing r {s} {buffer} t g f =
       let W = unreadIn s buffer in
       let X = take (r .got) (drop (s .supply) supply) in
@@ -97,53 +97,53 @@ module _ (supply schedule : List ℕ) where
       let n : unread s + r .got - 0 ≤ length buffer = omega (arith, g, f) in
       let p : X ++ drop (s .supply + r .got) supply ≡ drop (s .supply) supply =
       ap (λ (l : List ℕ). X ++ l) (sym (drop-drop (r .got) (s .supply) supply)) ∙ take-append-drop (r .got) (drop (s .supply) supply) in
-      let a : ahead supply (landed s r) (landedIn supply s r buffer) ≡ W ++ drop (s .supply) supply =
+      let a : ahead supply (filled s r) (filledIn supply s r buffer) ≡ W ++ drop (s .supply) supply =
       ap (λ (b : Bool). take (unread s + r .got - 0) (pick b (sets buffer 0 (W ++ X)) supply) ++ drop (s .supply + r .got) supply) t
       ∙ ap (λ (l : List ℕ). l ++ drop (s .supply + r .got) supply) (take-sets buffer (W ++ X) (unread s + r .got - 0) y n)
       ∙ append-assoc W X (drop (s .supply + r .got) supply) ∙ ap (λ (l : List ℕ). W ++ l) p in
       let b : ahead supply s buffer ≡ W ++ drop (s .supply) supply = ap (λ (b : Bool). unreadIn s (pick b buffer supply) ++ drop (s .supply) supply) t in
-      let h : length (heldIn supply (landed s r) (landedIn supply s r buffer)) ≡ length buffer =
-      ap (λ (b : Bool). length (pick b (landedIn supply s r buffer) supply)) t ∙ length-sets buffer 0 (W ++ X) in
-      stays (rw h (landed-good s (length buffer) (length supply) (length schedule) r g f)) refl (a ∙ sym b)
+      let h : length (heldIn supply (filled s r) (filledIn supply s r buffer)) ≡ length buffer =
+      ap (λ (b : Bool). length (pick b (filledIn supply s r buffer) supply)) t ∙ length-sets buffer 0 (W ++ X) in
+      stays (rw h (filled-good s (length buffer) (length supply) (length schedule) r g f)) refl (a ∙ sym b)
 
   -- ---- calls
 
-  abbrev pub Keeps : {A : Type 0} → ParserSource → List ℕ → Step A → Type 0
-  Keeps s buffer (gives a t b) = Kept s buffer t b
-  Keeps s buffer (refuses r t b) = Kept s buffer t b
+  abbrev pub Keeps : {A : Type 0} → ParserSource → List ℕ → Drawn A → Type 0
+  Keeps s buffer (drawn a t b) = Kept s buffer t b
+  Keeps s buffer (halted r t b) = Kept s buffer t b
 
-  abbrev pub Keeping : {A : Type 0} → Call A → Type 0
+  abbrev pub Keeping : {A : Type 0} → Draw A → Type 0
   Keeping f = (s : ParserSource) (buffer : List ℕ) → Sound s buffer → Keeps s buffer (f s buffer)
 
-  giving : {A : Type 0} (a : A) → Keeping (gives a)
+  giving : {A : Type 0} (a : A) → Keeping (drawn a)
   giving a s buffer g = unmoved s buffer g
 
   refusing : (A : Type 0) → Keeping (invalid {A = A})
   refusing A s buffer g = unmoved s buffer g
 
-  either : {A : Type 0} (b : Bool) (f g : Call A) → Keeping f → Keeping g → Keeping (pick b f g)
+  either : {A : Type 0} (b : Bool) (f g : Draw A) → Keeping f → Keeping g → Keeping (pick b f g)
   either true f g p q = p
   either false f g p q = q
 
-  then-by : {A B : Type 0} (g : A → Call B) → ((a : A) → Keeping (g a)) → (s : ParserSource) (buffer : List ℕ) (x : Step A) → Keeps s buffer x → Keeps s buffer (andThen x g)
-  unfolding andThen
-  then-by {A} {B} g q s buffer (gives a t b) k = go (g a t b) (q a t b (k .good))
+  then-by : {A B : Type 0} (g : A → Draw B) → ((a : A) → Keeping (g a)) → (s : ParserSource) (buffer : List ℕ) (x : Drawn A) → Keeps s buffer x → Keeps s buffer (drawnThen x g)
+  unfolding drawnThen
+  then-by {A} {B} g q s buffer (drawn a t b) k = go (g a t b) (q a t b (k .good))
     where
-      go : (y : Step B) → Keeps t b y → Keeps s buffer y
-      go (gives c u d) m = further k m
-      go (refuses r u d) m = further k m
-  then-by {A} {B} g q s buffer (refuses r t b) k = k
+      go : (y : Drawn B) → Keeps t b y → Keeps s buffer y
+      go (drawn c u d) m = further k m
+      go (halted r u d) m = further k m
+  then-by {A} {B} g q s buffer (halted r t b) k = k
 
-  followed : {A B : Type 0} (f : Call A) (g : A → Call B) → Keeping f → ((a : A) → Keeping (g a)) → Keeping (f then g)
+  followed : {A B : Type 0} (f : Draw A) (g : A → Draw B) → Keeping f → ((a : A) → Keeping (g a)) → Keeping (f then g)
   unfolding _then_
   followed f g p q s buffer w = then-by g q s buffer (f s buffer) (p s buffer w)
 
-  optionally : {A : Type 0} (s : ParserSource) (buffer : List ℕ) (x : Step A) → Keeps s buffer x → Keeps s buffer (optional x)
-  unfolding optional
-  optionally {A} s buffer (gives a t b) k = k
-  optionally {A} s buffer (refuses r t b) k = by (isEof r && leb (t .end) (t .start))
+  optionally : {A : Type 0} (s : ParserSource) (buffer : List ℕ) (x : Drawn A) → Keeps s buffer x → Keeps s buffer (attempted x)
+  unfolding attempted
+  optionally {A} s buffer (drawn a t b) k = k
+  optionally {A} s buffer (halted r t b) k = by (isEof r && leb (t .end) (t .start))
     where
-      by : (p : Bool) → Keeps {A = Option A} s buffer (pick p (gives none t b) (refuses r t b))
+      by : (p : Bool) → Keeps {A = Option A} s buffer (pick p (drawn none t b) (halted r t b))
       by true = k
       by false = k
 
@@ -163,7 +163,7 @@ module _ (supply schedule : List ℕ) where
   unfolding advanced
   advanced-keeps n s buffer g = by-check supply schedule s buffer (Keeps s buffer) _ (λ p. unmoved s buffer g) (λ e. by (leb n (unread s)) refl)
     where
-      by : (p : Bool) → leb n (unread s) ≡ p → Keeps s buffer (pick p (gives true (past n s) buffer) (gives false s buffer))
+      by : (p : Bool) → leb n (unread s) ≡ p → Keeps s buffer (pick p (drawn true (past n s) buffer) (drawn false s buffer))
       by true e = passing n g (leb-true _ _ e)
       by false e = unmoved s buffer g
 
@@ -172,13 +172,13 @@ module _ (supply schedule : List ℕ) where
   window-len-keeps s buffer g = by-check supply schedule s buffer (Keeps s buffer) _ (λ p. unmoved s buffer g) (λ e. unmoved s buffer g)
 
   -- n bytes are ensured and passed
-  reading : (n : ℕ) (h : ParserSource → Text) → Keeping (ensured supply schedule n then (λ _ s buffer. gives (h s) (past n s) buffer))
-  unfolding _then_ andThen
+  reading : (n : ℕ) (h : ParserSource → Text) → Keeping (ensured supply schedule n then (λ _ s buffer. drawn (h s) (past n s) buffer))
+  unfolding _then_ drawnThen
   reading n h s buffer g = by (ensured supply schedule n s buffer) refl (ensured-keeps n s buffer g)
     where
-      by : (x : Step (Unit {0})) → ensured supply schedule n s buffer ≡ x → Keeps s buffer x → Keeps s buffer (andThen x (λ _ t b. gives (h t) (past n t) b))
-      by (gives a t b) e k = let w = ready supply schedule s buffer n e in further k (passing n (w .good) (w .there))
-      by (refuses r t b) e k = k
+      by : (x : Drawn (Unit {0})) → ensured supply schedule n s buffer ≡ x → Keeps s buffer x → Keeps s buffer (drawnThen x (λ _ t b. drawn (h t) (past n t) b))
+      by (drawn a t b) e k = let w = ready supply schedule s buffer n e in further k (passing n (w .good) (w .there))
+      by (halted r t b) e k = k
 
   pub taken-keeps : (n : ℕ) → Keeping (taken supply schedule n)
   unfolding taken

@@ -2,7 +2,7 @@ pub mod Stores
 pub mod Filling
 pub mod States
 pub mod Cases
-pub mod Laws
+pub mod Answered
 pub mod Through
 pub mod Kept
 pub mod Conserve

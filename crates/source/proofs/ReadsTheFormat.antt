@@ -20,7 +20,7 @@ use Rattle.form.proofs.Never.{never}
 use Rattle.payload.specs.declared.answers.Text.{Text}
 use Rattle.payload.proofs.Texts.{within}
 use Rattle.source.specs.declared.ParserSource.{ParserSource}
-use Rattle.source.specs.Window.{unread, past, Step, gives, refuses, Call, andThen, _then_, optional, textAt, heldIn, textIn, ensured, taken, peeked}
+use Rattle.source.specs.Window.{unread, past, Drawn, drawn, halted, Draw, drawnThen, _then_, attempted, textAt, heldIn, textIn, ensured, taken, peeked}
 use Rattle.source.specs.Binary.{spelledAt, invalid, mappedOption, number, id, peekedId, stringOf, string, expected, channel, withAlpha, endedBy, ending, channels, colour}
 use Rattle.source.specs.Runs.{ahead}
 use Rattle.source.proofs.Cases.{ready}
@@ -43,7 +43,7 @@ module _ (supply schedule : List ℕ) where
       rw d at (passing supply schedule n {s = t} {buffer = b} g h .same)
 
   -- n bytes are ensured and passed
-  passes : (n : ℕ) {s t : ParserSource} {buffer b : List ℕ} {A : Type 0} (r : Reader A) (a : A) → ensured supply schedule n s buffer ≡ gives tt t b
+  passes : (n : ℕ) {s t : ParserSource} {buffer b : List ℕ} {A : Type 0} (r : Reader A) (a : A) → ensured supply schedule n s buffer ≡ drawn tt t b
       → (n ≤ length (ahead supply s buffer) → r (ahead supply s buffer) ≡ found a n) → Finds r a n s buffer (past n t) b
   passes n {s} {t} {buffer} {b} r a e f =
       let w = ready supply schedule s buffer n e in
@@ -63,18 +63,18 @@ module _ (supply schedule : List ℕ) where
   num-is n l h = rw (next-is n l h)
 
   -- a number of n bytes: `read_lexeme_id`, where n is 2, and the numbers of a colour
-  pub number-finds : (n : ℕ) {s u : ParserSource} {buffer b : List ℕ} {i : ℕ} → number supply schedule n s buffer ≡ gives i u b → Finds (F.num n) i n s buffer u b
-  unfolding number taken _then_ andThen
+  pub number-finds : (n : ℕ) {s u : ParserSource} {buffer b : List ℕ} {i : ℕ} → number supply schedule n s buffer ≡ drawn i u b → Finds (F.num n) i n s buffer u b
+  unfolding number taken _then_ drawnThen
   number-finds n {s} {u} {buffer} {b} {i} e = by (ensured supply schedule n s buffer) refl e
     where
-      by : (x : Step (Unit {0})) → ensured supply schedule n s buffer ≡ x
-          → andThen (andThen x (λ _ v m. gives (textAt (v .start) n) (past n v) m)) (λ t v m. gives (spelledAt supply n v (t .start) m) v m) ≡ gives i u b
+      by : (x : Drawn (Unit {0})) → ensured supply schedule n s buffer ≡ x
+          → drawnThen (drawnThen x (λ _ v m. drawn (textAt (v .start) n) (past n v) m)) (λ t v m. drawn (spelledAt supply n v (t .start) m) v m) ≡ drawn i u b
           → Finds (F.num n) i n s buffer u b
-      by (gives a v m) q h =
+      by (drawn a v m) q h =
           let y : past n v ≡ u = cc in
           let x : m ≡ b = cc in
           rw (← y, ← x) (passes n (F.num n) i q (λ l. num-is n _ l ∙ ap (λ (j : ℕ). found j n) (sym (number-bytes supply schedule s buffer n e))))
-      by (refuses r v m) q h = never (cc)
+      by (halted r v m) q h = never (cc)
 
   -- `peek_lexeme_id` finds the same, and nothing is passed
   pub record Sees (i : ℕ) (s : ParserSource) (buffer : List ℕ) (t : ParserSource) (b : List ℕ) : Type 0 where
@@ -82,20 +82,20 @@ module _ (supply schedule : List ℕ) where
     pub same : ahead supply t b ≡ ahead supply s buffer
     pub there : t .position ≡ s .position
 
-  pub peeked-id-sees : {s u : ParserSource} {buffer b : List ℕ} {i : ℕ} → peekedId supply schedule s buffer ≡ gives (some i) u b → Sees i s buffer u b
-  unfolding peekedId peeked _then_ andThen optional mappedOption
+  pub peeked-id-sees : {s u : ParserSource} {buffer b : List ℕ} {i : ℕ} → peekedId supply schedule s buffer ≡ drawn (some i) u b → Sees i s buffer u b
+  unfolding peekedId peeked _then_ drawnThen attempted mappedOption
   peeked-id-sees {s} {u} {buffer} {b} {i} e = by (ensured supply schedule 2 s buffer) refl e
     where
-      spelled : Option Text → Call (Option ℕ)
-      spelled o v m = gives (mappedOption (λ t. spelledAt supply 2 v (t .start) m) o) v m
+      spelled : Option Text → Draw (Option ℕ)
+      spelled o v m = drawn (mappedOption (λ t. spelledAt supply 2 v (t .start) m) o) v m
 
-      stopped : (p : Bool) (r : Refusal) (v : ParserSource) (m : List ℕ) → andThen (pick p (gives none v m) (refuses r v m)) spelled ≡ gives (some i) u b → Sees i s buffer u b
+      stopped : (p : Bool) (r : Refusal) (v : ParserSource) (m : List ℕ) → drawnThen (pick p (drawn none v m) (halted r v m)) spelled ≡ drawn (some i) u b → Sees i s buffer u b
       stopped true r v m h = never (cc)
       stopped false r v m h = never (cc)
 
-      by : (x : Step (Unit {0})) → ensured supply schedule 2 s buffer ≡ x → andThen (optional (andThen x (λ _ v m. gives (textAt (v .start) 2) v m))) spelled ≡ gives (some i) u b
+      by : (x : Drawn (Unit {0})) → ensured supply schedule 2 s buffer ≡ x → drawnThen (attempted (drawnThen x (λ _ v m. drawn (textAt (v .start) 2) v m))) spelled ≡ drawn (some i) u b
           → Sees i s buffer u b
-      by (gives a v m) q h =
+      by (drawn a v m) q h =
           let z : spelledAt supply 2 v (v .start) m ≡ i = cc in
           let y : v ≡ u = cc in
           let x : m ≡ b = cc in
@@ -105,7 +105,7 @@ module _ (supply schedule : List ℕ) where
             same = ensured-ahead supply schedule s buffer 2 q;
             there = ensured-position supply schedule s buffer 2 q;
           })
-      by (refuses r v m) q h = stopped (eqb (refusalNumber r) 1 && leb (v .end) (v .start)) r v m h
+      by (halted r v m) q h = stopped (eqb (refusalNumber r) 1 && leb (v .end) (v .start)) r v m h
 
   -- a length n, and so many bytes
   string-is : (n : ℕ) (l : List ℕ) → n ≡ le (take 2 l) → 2 + n ≤ length l → F.string l ≡ found (take n (drop 2 l)) (2 + n)
@@ -118,40 +118,40 @@ module _ (supply schedule : List ℕ) where
       let k = passing supply schedule 2 {s = t} {buffer = b} g (omega arith) in
       front supply schedule n (past 2 t) b (k .good) (omega arith) ∙ ap (take n) (sym (past-ahead 2 t b g (omega arith)))
 
-  string-of-finds : (n : ℕ) {s u : ParserSource} {buffer b : List ℕ} {t : Text} → n ≡ le (take 2 (ahead supply s buffer)) → stringOf supply schedule n s buffer ≡ gives t u b
+  string-of-finds : (n : ℕ) {s u : ParserSource} {buffer b : List ℕ} {t : Text} → n ≡ le (take 2 (ahead supply s buffer)) → stringOf supply schedule n s buffer ≡ drawn t u b
       → Finds F.string (textIn supply t u b) (2 + t .len) s buffer u b
-  unfolding stringOf _then_ andThen
+  unfolding stringOf _then_ drawnThen
   string-of-finds n {s} {u} {buffer} {b} {t} d e = by (ensured supply schedule (2 + n) s buffer) refl e
     where
-      by : (x : Step (Unit {0})) → ensured supply schedule (2 + n) s buffer ≡ x → andThen x (λ _ v m. gives (textAt (v .start + 2) n) (past (2 + n) v) m) ≡ gives t u b
+      by : (x : Drawn (Unit {0})) → ensured supply schedule (2 + n) s buffer ≡ x → drawnThen x (λ _ v m. drawn (textAt (v .start + 2) n) (past (2 + n) v) m) ≡ drawn t u b
           → Finds F.string (textIn supply t u b) (2 + t .len) s buffer u b
-      by (gives a v m) q h =
+      by (drawn a v m) q h =
           let z : textAt (v .start + 2) n ≡ t = cc in
           let y : past (2 + n) v ≡ u = cc in
           let x : m ≡ b = cc in
           let w = ready supply schedule s buffer (2 + n) q in
           let part = text-part n v m (w .good) (w .there) ∙ ap (λ (l : List ℕ). take n (drop 2 l)) (ensured-ahead supply schedule s buffer (2 + n) q) in
           rw (← z, ← y, ← x, within (heldIn supply v m) (textAt (v .start + 2) n) (omega (arith, w .good, w .there)), part) (passes (2 + n) F.string _ q (string-is n (ahead supply s buffer) d))
-      by (refuses r v m) q h = never (cc)
+      by (halted r v m) q h = never (cc)
 
   -- `read_bstr`
-  pub string-finds : {s u : ParserSource} {buffer b : List ℕ} {t : Text} → string supply schedule s buffer ≡ gives t u b → Finds F.string (textIn supply t u b) (2 + t .len) s buffer u b
-  unfolding string _then_ andThen
+  pub string-finds : {s u : ParserSource} {buffer b : List ℕ} {t : Text} → string supply schedule s buffer ≡ drawn t u b → Finds F.string (textIn supply t u b) (2 + t .len) s buffer u b
+  unfolding string _then_ drawnThen
   string-finds {s} {u} {buffer} {b} {t} e = by (ensured supply schedule 2 s buffer) refl e
     where
-      by : (x : Step (Unit {0})) → ensured supply schedule 2 s buffer ≡ x → andThen x (λ _ v m. stringOf supply schedule (spelledAt supply 2 v (v .start) m) v m) ≡ gives t u b
+      by : (x : Drawn (Unit {0})) → ensured supply schedule 2 s buffer ≡ x → drawnThen x (λ _ v m. stringOf supply schedule (spelledAt supply 2 v (v .start) m) v m) ≡ drawn t u b
           → Finds F.string (textIn supply t u b) (2 + t .len) s buffer u b
-      by (gives a v m) q h =
+      by (drawn a v m) q h =
           let same = ensured-ahead supply schedule s buffer 2 q in
           let k = string-of-finds (spelledAt supply 2 v (v .start) m) (ap le (ensured-front supply schedule s buffer 2 q ∙ ap (take 2) (sym same))) h in
           record { is = rw (← same) (k .is); rest = rw (← same) (k .rest); on = k .on ∙ ap (λ (p : ℕ). p + (2 + t .len)) (ensured-position supply schedule s buffer 2 q) }
-      by (refuses r v m) q h = never (cc)
+      by (halted r v m) q h = never (cc)
 
   -- ---- colours
 
   -- where a call gives a, a reader finds h a in the bytes that the call passes
-  abbrev Agrees : {A B : Type 0} → (A → B) → Call A → Reader B → Type 0
-  Agrees {A} {B} h f r = (s : ParserSource) (buffer : List ℕ) (a : A) (t : ParserSource) (b : List ℕ) → f s buffer ≡ gives a t b → Finds r (h a) (t .position - s .position) s buffer t b
+  abbrev Agrees : {A B : Type 0} → (A → B) → Draw A → Reader B → Type 0
+  Agrees {A} {B} h f r = (s : ParserSource) (buffer : List ℕ) (a : A) (t : ParserSource) (b : List ℕ) → f s buffer ≡ drawn a t b → Finds r (h a) (t .position - s .position) s buffer t b
 
   -- the count, by the positions
   counted : {A : Type 0} (r : Reader A) (a : A) (n : ℕ) {s t : ParserSource} {buffer b : List ℕ} → Finds r a n s buffer t b → Finds r a (t .position - s .position) s buffer t b
@@ -161,7 +161,7 @@ module _ (supply schedule : List ℕ) where
   number-agrees n s buffer i t b e = counted (F.num n) i n (number-finds n e)
 
   -- nothing is read
-  nothing-agrees : {A : Type 0} (a : A) → Agrees (λ x. x) (gives a) (give a)
+  nothing-agrees : {A : Type 0} (a : A) → Agrees (λ x. x) (drawn a) (give a)
   unfolding give
   nothing-agrees a s buffer c t b e =
       let z : a ≡ c = cc in
@@ -173,22 +173,22 @@ module _ (supply schedule : List ℕ) where
   invalid-agrees : {A B : Type 0} (h : A → B) (r : Reader B) → Agrees h invalid r
   invalid-agrees h r s buffer a t b e = never (cc)
 
-  either-agrees : {A B : Type 0} (h : A → B) (p : Bool) {f g : Call A} {r q : Reader B} → Agrees h f r → Agrees h g q → Agrees h (pick p f g) (pick p r q)
+  either-agrees : {A B : Type 0} (h : A → B) (p : Bool) {f g : Draw A} {r q : Reader B} → Agrees h f r → Agrees h g q → Agrees h (pick p f g) (pick p r q)
   either-agrees h true x y = x
   either-agrees h false x y = y
 
-  giving-agrees : {A B C : Type 0} (h : A → B) (k : B → C) {f : Call A} {r : Reader B} → Agrees h f r → Agrees (λ a. k (h a)) f (r giving k)
+  giving-agrees : {A B C : Type 0} (h : A → B) (k : B → C) {f : Draw A} {r : Reader B} → Agrees h f r → Agrees (λ a. k (h a)) f (r giving k)
   unfolding _giving_ R.mapped
   giving-agrees h k x s buffer a t b e = let w = x s buffer a t b e in record { is = rw (w .is); rest = w .rest; on = w .on }
 
   -- a call and then another, as one reader followed by another
-  then-agrees : {A B C D : Type 0} (h : A → B) (k : C → D) {f : Call A} {g : A → Call C} {r : Reader B} (q : B → Reader D)
+  then-agrees : {A B C D : Type 0} (h : A → B) (k : C → D) {f : Draw A} {g : A → Draw C} {r : Reader B} (q : B → Reader D)
       → Agrees h f r → ((a : A) → Agrees k (g a) (q (h a))) → Agrees k (f then g) (r followed-by q)
-  unfolding _then_ andThen _followed-by_ R.andThen R.further
+  unfolding _then_ drawnThen _followed-by_ R.andThen R.further
   then-agrees {A} {B} {C} {D} h k {f} {g} {r} q x y s buffer c u l e = by (f s buffer) refl e
     where
-      by : (z : Step A) → f s buffer ≡ z → andThen z g ≡ gives c u l → Finds (r followed-by q) (k c) (u .position - s .position) s buffer u l
-      by (gives a t b) p o =
+      by : (z : Drawn A) → f s buffer ≡ z → drawnThen z g ≡ drawn c u l → Finds (r followed-by q) (k c) (u .position - s .position) s buffer u l
+      by (drawn a t b) p o =
           let m = x s buffer a t b p in
           let n = y a t b c u l o in
           counted (r followed-by q) (k c) (t .position - s .position + (u .position - t .position)) (record {
@@ -196,14 +196,14 @@ module _ (supply schedule : List ℕ) where
             rest = sym (drop-drop (u .position - t .position) (t .position - s .position) (ahead supply s buffer)) ∙ ap (drop (u .position - t .position)) (m .rest) ∙ n .rest;
             on = omega (arith, m .on, n .on);
           })
-      by (refuses e t b) p o = never (cc)
+      by (halted e t b) p o = never (cc)
 
   -- an id that is the one expected
   expected-agrees : (i : ℕ) → Agrees (λ _. i) (expected supply schedule i) (F.num 2)
-  unfolding expected _then_ andThen
+  unfolding expected _then_ drawnThen
   expected-agrees i s buffer a t b e = by (id supply schedule s buffer) refl e
     where
-      judge : (j : ℕ) (v : ParserSource) (m : List ℕ) (p : Bool) → eqb j i ≡ p → pick p (gives (tt {0})) invalid v m ≡ gives a t b → Finds (F.num 2) j (v .position - s .position) s buffer v m
+      judge : (j : ℕ) (v : ParserSource) (m : List ℕ) (p : Bool) → eqb j i ≡ p → pick p (drawn (tt {0})) invalid v m ≡ drawn a t b → Finds (F.num 2) j (v .position - s .position) s buffer v m
           → Finds (F.num 2) i (t .position - s .position) s buffer t b
       judge j v m true d o k =
           let y : v ≡ t = cc in
@@ -211,9 +211,9 @@ module _ (supply schedule : List ℕ) where
           rw (← eqb-true j i d, ← y, ← x) k
       judge j v m false d o k = never (cc)
 
-      by : (z : Step ℕ) → id supply schedule s buffer ≡ z → andThen z (λ j. pick (eqb j i) (gives tt) invalid) ≡ gives a t b → Finds (F.num 2) i (t .position - s .position) s buffer t b
-      by (gives j v m) p o = judge j v m (eqb j i) refl o (number-agrees 2 s buffer j v m p)
-      by (refuses r v m) p o = never (cc)
+      by : (z : Drawn ℕ) → id supply schedule s buffer ≡ z → drawnThen z (λ j. pick (eqb j i) (drawn tt) invalid) ≡ drawn a t b → Finds (F.num 2) i (t .position - s .position) s buffer t b
+      by (drawn j v m) p o = judge j v m (eqb j i) refl o (number-agrees 2 s buffer j v m p)
+      by (halted r v m) p o = never (cc)
 
   -- a channel whose id is right
   abbrev channelOf : ℕ → F.Channel
@@ -246,5 +246,5 @@ module _ (supply schedule : List ℕ) where
       then-agrees (λ e. e) (λ v. v) _ (number-agrees 2) (λ e. ended-agrees r g b e)))))
 
   -- `read_rgb`, which judges each id as it comes, gives what the strict reader finds, which takes 22 bytes first
-  pub colour-finds : {s u : ParserSource} {buffer b : List ℕ} {v : Value} → colour supply schedule s buffer ≡ gives v u b → Finds F.rgb v (u .position - s .position) s buffer u b
+  pub colour-finds : {s u : ParserSource} {buffer b : List ℕ} {v : Value} → colour supply schedule s buffer ≡ drawn v u b → Finds F.rgb v (u .position - s .position) s buffer u b
   colour-finds {s} {u} {buffer} {b} {v} e = colour-agrees s buffer v u b e

@@ -10,7 +10,7 @@ use Rattle.form.specs.Numbers.{pick}
 use Rattle.source.specs.declared.ParserSource.{ParserSource}
 use Rattle.source.specs.declared.reads.Reads.{Reads}
 use Rattle.source.specs.Reads.{FAILS, came, one, onward, fill}
-use Rattle.source.specs.Window.{landedIn}
+use Rattle.source.specs.Window.{filledIn}
 
 -- no entry is zero, and none fails
 pub data Steady : List ℕ → Type 0 where
@@ -47,7 +47,7 @@ full room left (e ∷ es) (more h₁ h₂ s) =
 
 -- so two schedules give the same bytes and leave the same buffer
 pub same-bytes : (supply : List ℕ) (s : ParserSource) (buffer : List ℕ) (room left : ℕ) (es fs : List ℕ) → Steady es → Steady fs
-    → landedIn supply s (fill room left es) buffer ≡ landedIn supply s (fill room left fs) buffer
+    → filledIn supply s (fill room left es) buffer ≡ filledIn supply s (fill room left fs) buffer
 same-bytes supply s buffer room left es fs p q =
     let n : fill room left es .got ≡ fill room left fs .got = full room left es p .all ∙ sym (full room left fs q .all) in
-    ap (λ (k : ℕ). landedIn supply s (came k 0 false) buffer) n
+    ap (λ (k : ℕ). filledIn supply s (came k 0 false) buffer) n

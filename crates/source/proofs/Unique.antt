@@ -33,7 +33,7 @@ use Rattle.source.specs.declared.answers.PeekedId.{PeekedId}
 use Rattle.source.specs.declared.answers.PeekedId.the-variants as P
 use Rattle.source.specs.declared.answers.TakenRgb.{TakenRgb}
 use Rattle.source.specs.declared.answers.TakenRgb.the-variants as C
-use Rattle.source.specs.Window.{Step, gives, refuses}
+use Rattle.source.specs.Window.{Drawn, drawn, halted}
 use Rattle.source.specs.Answers.{refusalOf, ensuredAnswer, refilledAnswer, advancedAnswer, windowLenAnswer, takenAnswer, triedAnswer, idAnswer, peekedIdAnswer, rgbAnswer}
 
 -- ---- refusals; the code has no NotEncodable, NoRoom and TooLong
@@ -63,20 +63,20 @@ stop-back x = λ i. record { error = error-back (x .error) i; next = x .next }
 
 -- ---- the law: over any answer that can be read back, with the buffer that the call leaves
 
-abbrev backTo : {E A : Type 0} → (A → ParserSource → E) → (Stop → E) → Step A → E
-backTo got refusing (gives a s buffer) = got a s
-backTo got refusing (refuses r s buffer) = refusing (stopOf r s)
+abbrev backTo : {E A : Type 0} → (A → ParserSource → E) → (Stop → E) → Drawn A → E
+backTo got refusing (drawn a s buffer) = got a s
+backTo got refusing (halted r s buffer) = refusing (stopOf r s)
 
-abbrev leftBy : {A : Type 0} → Step A → List ℕ
-leftBy (gives a s buffer) = buffer
-leftBy (refuses r s buffer) = buffer
+abbrev leftBy : {A : Type 0} → Drawn A → List ℕ
+leftBy (drawn a s buffer) = buffer
+leftBy (halted r s buffer) = buffer
 
 -- the results, and the buffers
 abbrev Same : {E : Type 0} → E → E → List ℕ → List ℕ → Type 0
 Same r r′ b b′ = (r ≡ r′) × (b ≡ b′)
 
-alike : {E A : Type 0} (answer : E → List ℕ → Step A) (back : Step A → E) → ((r : E) (b : List ℕ) → back (answer r b) ≡ r) → ((r : E) (b : List ℕ) → leftBy (answer r b) ≡ b)
-    → {a : Step A} (r r′ : E) (b b′ : List ℕ) → answer r b ≡ a → answer r′ b′ ≡ a → Same r r′ b b′
+alike : {E A : Type 0} (answer : E → List ℕ → Drawn A) (back : Drawn A → E) → ((r : E) (b : List ℕ) → back (answer r b) ≡ r) → ((r : E) (b : List ℕ) → leftBy (answer r b) ≡ b)
+    → {a : Drawn A} (r r′ : E) (b b′ : List ℕ) → answer r b ≡ a → answer r′ b′ ≡ a → Same r r′ b b′
 alike answer back h k r r′ b b′ p q = (sym (h r b) ∙ ap back (p ∙ sym q) ∙ h r′ b′, sym (k r b) ∙ ap leftBy (p ∙ sym q) ∙ k r′ b′)
 
 -- ---- the answers
@@ -89,7 +89,7 @@ ensured-left : (r : Ensured) (b : List ℕ) → leftBy (ensuredAnswer r b) ≡ b
 ensured-left (E.Ready s) b = refl
 ensured-left (E.Refused x) b = refl
 
-pub ensured-one : {a : Step (Unit {0})} (r r′ : Ensured) (b b′ : List ℕ) → ensuredAnswer r b ≡ a → ensuredAnswer r′ b′ ≡ a → Same r r′ b b′
+pub ensured-one : {a : Drawn (Unit {0})} (r r′ : Ensured) (b b′ : List ℕ) → ensuredAnswer r b ≡ a → ensuredAnswer r′ b′ ≡ a → Same r r′ b b′
 ensured-one = alike ensuredAnswer (backTo (λ _ s. E.Ready s) E.Refused) ensured-back ensured-left
 
 refilled-back : (r : Refilled) (b : List ℕ) → backTo R.Read R.Refused (refilledAnswer r b) ≡ r
@@ -100,21 +100,21 @@ refilled-left : (r : Refilled) (b : List ℕ) → leftBy (refilledAnswer r b) �
 refilled-left (R.Read n s) b = refl
 refilled-left (R.Refused x) b = refl
 
-pub refilled-one : {a : Step ℕ} (r r′ : Refilled) (b b′ : List ℕ) → refilledAnswer r b ≡ a → refilledAnswer r′ b′ ≡ a → Same r r′ b b′
+pub refilled-one : {a : Drawn ℕ} (r r′ : Refilled) (b b′ : List ℕ) → refilledAnswer r b ≡ a → refilledAnswer r′ b′ ≡ a → Same r r′ b b′
 refilled-one = alike refilledAnswer (backTo R.Read R.Refused) refilled-back refilled-left
 
 advanced-back : (r : Advanced) (b : List ℕ) → backTo A.Moved A.Refused (advancedAnswer r b) ≡ r
 advanced-back (A.Moved m s) b = refl
 advanced-back (A.Refused x) b = ap A.Refused (stop-back x)
 
-pub advanced-one : {a : Step Bool} (b : List ℕ) (r r′ : Advanced) → advancedAnswer r b ≡ a → advancedAnswer r′ b ≡ a → r ≡ r′
+pub advanced-one : {a : Drawn Bool} (b : List ℕ) (r r′ : Advanced) → advancedAnswer r b ≡ a → advancedAnswer r′ b ≡ a → r ≡ r′
 advanced-one b = same (λ r. advancedAnswer r b) (backTo A.Moved A.Refused) (λ r. advanced-back r b)
 
 window-len-back : (s : ParserSource) (b : List ℕ) (r : WindowLen) → backTo (λ n _. L.Got n) (λ x. L.Refused (x .error)) (windowLenAnswer s r b) ≡ r
 window-len-back s b (L.Got n) = refl
 window-len-back s b (L.Refused e) = ap L.Refused (error-back e)
 
-pub window-len-one : {a : Step ℕ} (s : ParserSource) (b : List ℕ) (r r′ : WindowLen) → windowLenAnswer s r b ≡ a → windowLenAnswer s r′ b ≡ a → r ≡ r′
+pub window-len-one : {a : Drawn ℕ} (s : ParserSource) (b : List ℕ) (r r′ : WindowLen) → windowLenAnswer s r b ≡ a → windowLenAnswer s r′ b ≡ a → r ≡ r′
 window-len-one s b = same (λ r. windowLenAnswer s r b) (backTo (λ n _. L.Got n) (λ x. L.Refused (x .error))) (window-len-back s b)
 
 taken-back : (r : Taken) (b : List ℕ) → backTo T.Got T.Refused (takenAnswer r b) ≡ r
@@ -125,7 +125,7 @@ taken-left : (r : Taken) (b : List ℕ) → leftBy (takenAnswer r b) ≡ b
 taken-left (T.Got t s) b = refl
 taken-left (T.Refused x) b = refl
 
-pub taken-one : {a : Step Text} (r r′ : Taken) (b b′ : List ℕ) → takenAnswer r b ≡ a → takenAnswer r′ b′ ≡ a → Same r r′ b b′
+pub taken-one : {a : Drawn Text} (r r′ : Taken) (b b′ : List ℕ) → takenAnswer r b ≡ a → takenAnswer r′ b′ ≡ a → Same r r′ b b′
 taken-one = alike takenAnswer (backTo T.Got T.Refused) taken-back taken-left
 
 abbrev triedOf : Option Text → ParserSource → Tried
@@ -142,7 +142,7 @@ tried-left (Y.Got t s) b = refl
 tried-left (Y.Nothing s) b = refl
 tried-left (Y.Refused x) b = refl
 
-pub tried-one : {a : Step (Option Text)} (r r′ : Tried) (b b′ : List ℕ) → triedAnswer r b ≡ a → triedAnswer r′ b′ ≡ a → Same r r′ b b′
+pub tried-one : {a : Drawn (Option Text)} (r r′ : Tried) (b b′ : List ℕ) → triedAnswer r b ≡ a → triedAnswer r′ b′ ≡ a → Same r r′ b b′
 tried-one = alike triedAnswer (backTo triedOf Y.Refused) tried-back tried-left
 
 abbrev idOf : ℕ → ParserSource → TakenId
@@ -156,7 +156,7 @@ id-left : (r : TakenId) (b : List ℕ) → leftBy (idAnswer r b) ≡ b
 id-left (I.Got i s) b = refl
 id-left (I.Refused x) b = refl
 
-pub id-one : {a : Step ℕ} (r r′ : TakenId) (b b′ : List ℕ) → idAnswer r b ≡ a → idAnswer r′ b′ ≡ a → Same r r′ b b′
+pub id-one : {a : Drawn ℕ} (r r′ : TakenId) (b b′ : List ℕ) → idAnswer r b ≡ a → idAnswer r′ b′ ≡ a → Same r r′ b b′
 id-one = alike idAnswer (backTo idOf I.Refused) id-back id-left
 
 abbrev peekedIdOf : Option ℕ → ParserSource → PeekedId
@@ -173,7 +173,7 @@ peeked-id-left (P.Got i s) b = refl
 peeked-id-left (P.Nothing s) b = refl
 peeked-id-left (P.Refused x) b = refl
 
-pub peeked-id-one : {a : Step (Option ℕ)} (r r′ : PeekedId) (b b′ : List ℕ) → peekedIdAnswer r b ≡ a → peekedIdAnswer r′ b′ ≡ a → Same r r′ b b′
+pub peeked-id-one : {a : Drawn (Option ℕ)} (r r′ : PeekedId) (b b′ : List ℕ) → peekedIdAnswer r b ≡ a → peekedIdAnswer r′ b′ ≡ a → Same r r′ b b′
 peeked-id-one = alike peekedIdAnswer (backTo peekedIdOf P.Refused) peeked-id-back peeked-id-left
 
 -- a colour stands for a value of one case only, so two are compared
@@ -191,5 +191,5 @@ rgb-left : (r : TakenRgb) (b : List ℕ) → leftBy (rgbAnswer r b) ≡ b
 rgb-left (C.Got x s) b = refl
 rgb-left (C.Refused y) b = refl
 
-pub colour-answer-one : {a : Step Value} (r r′ : TakenRgb) (b b′ : List ℕ) → rgbAnswer r b ≡ a → rgbAnswer r′ b′ ≡ a → Same r r′ b b′
+pub colour-answer-one : {a : Drawn Value} (r r′ : TakenRgb) (b b′ : List ℕ) → rgbAnswer r b ≡ a → rgbAnswer r′ b′ ≡ a → Same r r′ b b′
 colour-answer-one r r′ b b′ p q = (rgb-same r r′ b b′ (p ∙ sym q), sym (rgb-left r b) ∙ ap leftBy (p ∙ sym q) ∙ rgb-left r′ b′)

@@ -33,9 +33,9 @@ use Rattle.source.specs.declared.answers.TakenU32.{TakenU32}
 use Rattle.source.specs.declared.answers.TakenU32.the-variants as U
 use Rattle.source.specs.declared.answers.TakenRgb.{TakenRgb}
 use Rattle.source.specs.declared.answers.TakenRgb.the-variants as C
-use Rattle.source.specs.Window.{Step, gives, refuses}
+use Rattle.source.specs.Window.{Drawn, drawn, halted}
 
--- the paper's refusal
+-- the refusal that it is
 abbrev pub refusalOf : ParserError → F.Refusal
 refusalOf (Eof p) = F.Eof p
 refusalOf (InvalidRgb p) = F.InvalidRgb p
@@ -43,50 +43,50 @@ refusalOf (BufferTooSmall p) = F.BufferTooSmall p
 refusalOf (ReadFailed p) = F.ReadFailed p
 refusalOf (BadPlace p) = F.BadPlace p
 
-abbrev pub stopAnswer : {A : Type 0} → Stop → List ℕ → Step A
-stopAnswer x buffer = refuses (refusalOf (x .error)) (x .next) buffer
+abbrev pub stopAnswer : {A : Type 0} → Stop → List ℕ → Drawn A
+stopAnswer x buffer = halted (refusalOf (x .error)) (x .next) buffer
 
-abbrev pub ensuredAnswer : Ensured → List ℕ → Step (Unit {0})
-ensuredAnswer (E.Ready s) buffer = gives tt s buffer
+abbrev pub ensuredAnswer : Ensured → List ℕ → Drawn (Unit {0})
+ensuredAnswer (E.Ready s) buffer = drawn tt s buffer
 ensuredAnswer (E.Refused x) buffer = stopAnswer x buffer
 
-abbrev pub refilledAnswer : Refilled → List ℕ → Step ℕ
-refilledAnswer (R.Read n s) buffer = gives n s buffer
+abbrev pub refilledAnswer : Refilled → List ℕ → Drawn ℕ
+refilledAnswer (R.Read n s) buffer = drawn n s buffer
 refilledAnswer (R.Refused x) buffer = stopAnswer x buffer
 
-abbrev pub advancedAnswer : Advanced → List ℕ → Step Bool
-advancedAnswer (A.Moved b s) buffer = gives b s buffer
+abbrev pub advancedAnswer : Advanced → List ℕ → Drawn Bool
+advancedAnswer (A.Moved b s) buffer = drawn b s buffer
 advancedAnswer (A.Refused x) buffer = stopAnswer x buffer
 
 -- the state is the one that was asked
-abbrev pub windowLenAnswer : ParserSource → WindowLen → List ℕ → Step ℕ
-windowLenAnswer s (L.Got n) buffer = gives n s buffer
-windowLenAnswer s (L.Refused e) buffer = refuses (refusalOf e) s buffer
+abbrev pub windowLenAnswer : ParserSource → WindowLen → List ℕ → Drawn ℕ
+windowLenAnswer s (L.Got n) buffer = drawn n s buffer
+windowLenAnswer s (L.Refused e) buffer = halted (refusalOf e) s buffer
 
-abbrev pub takenAnswer : Taken → List ℕ → Step Text
-takenAnswer (T.Got t s) buffer = gives t s buffer
+abbrev pub takenAnswer : Taken → List ℕ → Drawn Text
+takenAnswer (T.Got t s) buffer = drawn t s buffer
 takenAnswer (T.Refused x) buffer = stopAnswer x buffer
 
-abbrev pub triedAnswer : Tried → List ℕ → Step (Option Text)
-triedAnswer (Y.Got t s) buffer = gives (some t) s buffer
-triedAnswer (Y.Nothing s) buffer = gives none s buffer
+abbrev pub triedAnswer : Tried → List ℕ → Drawn (Option Text)
+triedAnswer (Y.Got t s) buffer = drawn (some t) s buffer
+triedAnswer (Y.Nothing s) buffer = drawn none s buffer
 triedAnswer (Y.Refused x) buffer = stopAnswer x buffer
 
-abbrev pub idAnswer : TakenId → List ℕ → Step ℕ
-idAnswer (I.Got i s) buffer = gives (i .0) s buffer
+abbrev pub idAnswer : TakenId → List ℕ → Drawn ℕ
+idAnswer (I.Got i s) buffer = drawn (i .0) s buffer
 idAnswer (I.Refused x) buffer = stopAnswer x buffer
 
-abbrev pub peekedIdAnswer : PeekedId → List ℕ → Step (Option ℕ)
-peekedIdAnswer (P.Got i s) buffer = gives (some (i .0)) s buffer
-peekedIdAnswer (P.Nothing s) buffer = gives none s buffer
+abbrev pub peekedIdAnswer : PeekedId → List ℕ → Drawn (Option ℕ)
+peekedIdAnswer (P.Got i s) buffer = drawn (some (i .0)) s buffer
+peekedIdAnswer (P.Nothing s) buffer = drawn none s buffer
 peekedIdAnswer (P.Refused x) buffer = stopAnswer x buffer
 
-abbrev pub u32Answer : TakenU32 → List ℕ → Step ℕ
-u32Answer (U.Got n s) buffer = gives n s buffer
+abbrev pub u32Answer : TakenU32 → List ℕ → Drawn ℕ
+u32Answer (U.Got n s) buffer = drawn n s buffer
 u32Answer (U.Refused x) buffer = stopAnswer x buffer
 
-abbrev pub rgbAnswer : TakenRgb → List ℕ → Step Value
-rgbAnswer (C.Got c s) buffer = gives (colourOf c) s buffer
+abbrev pub rgbAnswer : TakenRgb → List ℕ → Drawn Value
+rgbAnswer (C.Got c s) buffer = drawn (colourOf c) s buffer
 rgbAnswer (C.Refused x) buffer = stopAnswer x buffer
 
 -- ---- what is done with a refusal

@@ -1,4 +1,4 @@
--- A state whose numbers fit.
+-- No public promise goes through this file. A state whose numbers fit.
 use Prim.Native.Nat.{ℕ, _+_, _-_, _≤_}
 use Rattle.form.specs.Numbers.{MAX}
 use Rattle.source.specs.declared.ParserSource.{ParserSource}

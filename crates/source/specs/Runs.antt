@@ -1,10 +1,11 @@
--- Any sequence of calls on one source, whose buffer, supply and schedule come back untouched by others.
+-- No public promise goes through this file. Any sequence of calls on one source, whose buffer, supply and schedule come back untouched by
+-- others.
 use Prim.Native.Nat.{ℕ, _-_}
 use mathlib.Core.Path.{_≡_}
 use mathlib.Core.List.{List, [], _∷_, _++_}
 use lib.ListN.{length, take, drop}
 use Rattle.source.specs.declared.ParserSource.{ParserSource}
-use Rattle.source.specs.Window.{Step, gives, refuses, window, ensured, refilled, advanced, windowLen, taken, tried, peeked}
+use Rattle.source.specs.Window.{Drawn, drawn, halted, window, ensured, refilled, advanced, windowLen, taken, tried, peeked}
 use Rattle.source.specs.Binary.{id, peekedId, string, colour}
 
 -- the calls; those on bytes are as those on arrays
@@ -30,9 +31,9 @@ passed supply w s buffer = record {
   consumed = w .consumed ++ take (s .position - w .state .position) (ahead supply (w .state) (w .buffer));
 }
 
-unfoldable pub leaving : {A : Type 0} → List ℕ → World → Step A → World
-leaving supply w (gives a s buffer) = passed supply w s buffer
-leaving supply w (refuses r s buffer) = passed supply w s buffer
+unfoldable pub leaving : {A : Type 0} → List ℕ → World → Drawn A → World
+leaving supply w (drawn a s buffer) = passed supply w s buffer
+leaving supply w (halted r s buffer) = passed supply w s buffer
 
 module _ (supply schedule : List ℕ) where
   unfoldable pub asked : Ask → World → World

@@ -55,8 +55,8 @@ past n s = record {
 }
 
 -- the unread bytes are at the front, and behind them what reads gave
-abbrev pub landed : ParserSource → Reads → ParserSource
-landed s r = record {
+abbrev pub filled : ParserSource → Reads → ParserSource
+filled s r = record {
   start = 0;
   end = unread s + r .got;
   supply = s .supply + r .got;
@@ -68,36 +68,36 @@ landed s r = record {
 -- ---- calls
 
 -- what a call answers, or why it refuses; the state that it leaves; and the buffer
-pub data Step (A : Type 0) : Type 0 where
-  gives : A → ParserSource → List ℕ → Step A
-  refuses : Refusal → ParserSource → List ℕ → Step A
+pub data Drawn (A : Type 0) : Type 0 where
+  drawn : A → ParserSource → List ℕ → Drawn A
+  halted : Refusal → ParserSource → List ℕ → Drawn A
 
 -- from a state and a buffer
-abbrev pub Call : Type 0 → Type 0
-Call A = ParserSource → List ℕ → Step A
+abbrev pub Draw : Type 0 → Type 0
+Draw A = ParserSource → List ℕ → Drawn A
 
-unfoldable pub andThen : {A B : Type 0} → Step A → (A → Call B) → Step B
-andThen (gives a s buffer) f = f a s buffer
-andThen (refuses r s buffer) f = refuses r s buffer
+unfoldable pub drawnThen : {A B : Type 0} → Drawn A → (A → Draw B) → Drawn B
+drawnThen (drawn a s buffer) f = f a s buffer
+drawnThen (halted r s buffer) f = halted r s buffer
 
 -- a call, and then what g says; where it refuses, that is the end
 infixr 20 _then_
-unfoldable pub _then_ : {A B : Type 0} → Call A → (A → Call B) → Call B
-_then_ f g s buffer = andThen (f s buffer) g
+unfoldable pub _then_ : {A B : Type 0} → Draw A → (A → Draw B) → Draw B
+_then_ f g s buffer = drawnThen (f s buffer) g
 
-unfoldable pub ifFine : {A : Type 0} → Check → ParserSource → List ℕ → Step A → Step A
+unfoldable pub ifFine : {A : Type 0} → Check → ParserSource → List ℕ → Drawn A → Drawn A
 ifFine Fine s buffer x = x
-ifFine (Bad p) s buffer x = refuses (BadPlace p) s buffer
+ifFine (Bad p) s buffer x = halted (BadPlace p) s buffer
 
 -- a part of the bytes; empty where the call is refused
-unfoldable pub ifGiven : {A : Type 0} → Step A → List ℕ → List ℕ
-ifGiven (gives a s buffer) part = part
-ifGiven (refuses r s buffer) part = []
+unfoldable pub ifGiven : {A : Type 0} → Drawn A → List ℕ → List ℕ
+ifGiven (drawn a s buffer) part = part
+ifGiven (halted r s buffer) part = []
 
 -- refused for Eof with no byte unread: there is nothing
-unfoldable pub optional : {A : Type 0} → Step A → Step (Option A)
-optional (gives a s buffer) = gives (some a) s buffer
-optional (refuses r s buffer) = pick (isEof r && leb (s .end) (s .start)) (gives none s buffer) (refuses r s buffer)
+unfoldable pub attempted : {A : Type 0} → Drawn A → Drawn (Option A)
+attempted (drawn a s buffer) = drawn (some a) s buffer
+attempted (halted r s buffer) = pick (isEof r && leb (s .end) (s .start)) (drawn none s buffer) (halted r s buffer)
 
 -- n bytes from a place
 abbrev pub textAt : ℕ → ℕ → Text
@@ -115,32 +115,32 @@ module _ (supply : List ℕ) where
   window s buffer = unreadIn s (heldIn s buffer)
 
   -- the buffer where reads gave r: the unread bytes, those of the supply, and then the bytes that were there
-  abbrev pub landedIn : ParserSource → Reads → List ℕ → List ℕ
-  landedIn s r buffer = sets buffer 0 (unreadIn s buffer ++ take (r .got) (drop (s .supply) supply))
+  abbrev pub filledIn : ParserSource → Reads → List ℕ → List ℕ
+  filledIn s r buffer = sets buffer 0 (unreadIn s buffer ++ take (r .got) (drop (s .supply) supply))
 
   -- what was moved and read stays, also where a read failed or too little came
-  unfoldable pub toppedBy : ℕ → ParserSource → List ℕ → Reads → Step (Unit {0})
+  unfoldable pub toppedBy : ℕ → ParserSource → List ℕ → Reads → Drawn (Unit {0})
   toppedBy n s buffer r =
-      pick (r .failed) (refuses (ReadFailed (s .position)) (landed s r) (landedIn s r buffer))
-      (pick (leb n (unread s + r .got)) (gives tt (landed s r) (landedIn s r buffer)) (refuses (Eof (s .position)) (landed s r) (landedIn s r buffer)))
+      pick (r .failed) (halted (ReadFailed (s .position)) (filled s r) (filledIn s r buffer))
+      (pick (leb n (unread s + r .got)) (drawn tt (filled s r) (filledIn s r buffer)) (halted (Eof (s .position)) (filled s r) (filledIn s r buffer)))
 
-  unfoldable pub onceBy : ParserSource → List ℕ → Reads → Step ℕ
+  unfoldable pub onceBy : ParserSource → List ℕ → Reads → Drawn ℕ
   onceBy s buffer r =
-      pick (r .failed) (refuses (ReadFailed (s .position)) (landed s r) (landedIn s r buffer)) (gives (r .got) (landed s r) (landedIn s r buffer))
+      pick (r .failed) (halted (ReadFailed (s .position)) (filled s r) (filledIn s r buffer)) (drawn (r .got) (filled s r) (filledIn s r buffer))
 
   -- the bytes of a text; none where it does not lie within those that hold the window
   abbrev pub textIn : Text → ParserSource → List ℕ → List ℕ
   textIn t s buffer = partOf (heldIn s buffer) t
 
   -- the part that an answer hands over: empty where there is nothing or it is refused
-  unfoldable pub takenPart : Step Text → List ℕ
-  takenPart (gives t s buffer) = textIn t s buffer
-  takenPart (refuses r s buffer) = []
+  unfoldable pub takenPart : Drawn Text → List ℕ
+  takenPart (drawn t s buffer) = textIn t s buffer
+  takenPart (halted r s buffer) = []
 
-  unfoldable pub triedPart : Step (Option Text) → List ℕ
-  triedPart (gives (some t) s buffer) = textIn t s buffer
-  triedPart (gives none s buffer) = []
-  triedPart (refuses r s buffer) = []
+  unfoldable pub triedPart : Drawn (Option Text) → List ℕ
+  triedPart (drawn (some t) s buffer) = textIn t s buffer
+  triedPart (drawn none s buffer) = []
+  triedPart (halted r s buffer) = []
 
 -- ---- over a supply and a schedule
 
@@ -149,50 +149,50 @@ module _ (supply schedule : List ℕ) where
   checkedIn s buffer = checked s (length (heldIn supply s buffer)) (length supply) (length schedule)
 
   -- a state that does not fit is refused before anything else, and nothing is moved
-  unfoldable pub fitting : {A : Type 0} → Call A → Call A
+  unfoldable pub fitting : {A : Type 0} → Draw A → Draw A
   fitting f s buffer = ifFine (checkedIn s buffer) s buffer (f s buffer)
 
   -- `refill_slow` of a stream
-  unfoldable pub topped : ℕ → Call (Unit {0})
+  unfoldable pub topped : ℕ → Draw (Unit {0})
   topped n s buffer = toppedBy supply n s buffer (fill (length buffer - unread s) (length supply - s .supply) (drop (s .schedule) schedule))
 
   -- `ensure_bytes`
-  unfoldable pub ensured : ℕ → Call (Unit {0})
+  unfoldable pub ensured : ℕ → Draw (Unit {0})
   ensured n =
-      fitting (λ s buffer. pick (leb n (unread s)) (gives tt s buffer)
-      (pick (s .streaming) (pick (leb n (length buffer)) (topped n s buffer) (refuses (BufferTooSmall (s .position)) s buffer))
-      (refuses (Eof (s .position)) s buffer)))
+      fitting (λ s buffer. pick (leb n (unread s)) (drawn tt s buffer)
+      (pick (s .streaming) (pick (leb n (length buffer)) (topped n s buffer) (halted (BufferTooSmall (s .position)) s buffer))
+      (halted (Eof (s .position)) s buffer)))
 
   -- one read of a stream
-  unfoldable pub once : Call ℕ
+  unfoldable pub once : Draw ℕ
   once s buffer = onceBy supply s buffer (one (length buffer - unread s) (length supply - s .supply) (drop (s .schedule) schedule))
 
   -- `refill`
-  unfoldable pub refilled : Call ℕ
+  unfoldable pub refilled : Draw ℕ
   refilled =
-      fitting (λ s buffer. pick (s .streaming) (pick (leb (length buffer) (unread s)) (refuses (BufferTooSmall (s .position)) s buffer) (once s buffer))
-      (gives 0 s buffer))
+      fitting (λ s buffer. pick (s .streaming) (pick (leb (length buffer) (unread s)) (halted (BufferTooSmall (s .position)) s buffer) (once s buffer))
+      (drawn 0 s buffer))
 
   -- `advance`
-  unfoldable pub advanced : ℕ → Call Bool
-  advanced n = fitting (λ s buffer. pick (leb n (unread s)) (gives true (past n s) buffer) (gives false s buffer))
+  unfoldable pub advanced : ℕ → Draw Bool
+  advanced n = fitting (λ s buffer. pick (leb n (unread s)) (drawn true (past n s) buffer) (drawn false s buffer))
 
   -- `window_len`
-  unfoldable pub windowLen : Call ℕ
-  windowLen = fitting (λ s buffer. gives (unread s) s buffer)
+  unfoldable pub windowLen : Draw ℕ
+  windowLen = fitting (λ s buffer. drawn (unread s) s buffer)
 
   -- `window`: empty where the state is refused
   unfoldable pub windowOf : ParserSource → List ℕ → List ℕ
   windowOf s buffer = ifGiven (windowLen s buffer) (window supply s buffer)
 
   -- `take` and `take_bytes`
-  unfoldable pub taken : ℕ → Call Text
-  taken n = ensured n then (λ _ s buffer. gives (textAt (s .start) n) (past n s) buffer)
+  unfoldable pub taken : ℕ → Draw Text
+  taken n = ensured n then (λ _ s buffer. drawn (textAt (s .start) n) (past n s) buffer)
 
   -- `try_take` and `try_take_bytes`
-  unfoldable pub tried : ℕ → Call (Option Text)
-  tried n s buffer = optional (taken n s buffer)
+  unfoldable pub tried : ℕ → Draw (Option Text)
+  tried n s buffer = attempted (taken n s buffer)
 
   -- `peek`
-  unfoldable pub peeked : ℕ → Call (Option Text)
-  peeked n s buffer = optional ((ensured n then (λ _ t b. gives (textAt (t .start) n) t b)) s buffer)
+  unfoldable pub peeked : ℕ → Draw (Option Text)
+  peeked n s buffer = attempted ((ensured n then (λ _ t b. drawn (textAt (t .start) n) t b)) s buffer)

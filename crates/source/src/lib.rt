@@ -7,7 +7,7 @@ ghost use mathlib.Core.Path.{_≡_};
 ghost use Prim.Native.Nat.{_+_, _-_, _≤_};
 ghost use lib.ListN.{length};
 ghost use Rattle.form.specs.Numbers.{pick, MAX};
-ghost use Rattle.source.specs.Window.{newStream, newSlice, unread, checked, checkedIn, past, landed, topped, ensured, once, refilled, advanced, windowLen, windowOf, textIn, taken, tried, peeked};
+ghost use Rattle.source.specs.Window.{newStream, newSlice, unread, checked, checkedIn, past, filled, topped, ensured, once, refilled, advanced, windowLen, windowOf, textIn, taken, tried, peeked};
 ghost use Rattle.source.specs.Answers.{ensuredAnswer, refilledAnswer, advancedAnswer, windowLenAnswer, takenAnswer, triedAnswer};
 ghost use Rattle.source.specs.Good.{Good};
 pub use crate::answers::Advanced;
@@ -85,7 +85,7 @@ impl ParserSource {
         if self.streaming { buffer } else { supply }
     }
 
-    // The first number that does not fit, in the scope paper's order.
+    // The first number that does not fit, in FORMAT.md's order.
     fn check_in(self, held: usize, supply: usize, schedule: usize) -> Check
         ensures { λ r. ⌜ r ≡ checked self held supply schedule ⌝ }
     {
@@ -123,9 +123,9 @@ impl ParserSource {
     }
 
     // The state after its unread bytes moved to the front, and reads behind them.
-    fn landed(self, r: Reads) -> Self
+    fn filled(self, r: Reads) -> Self
         requires { ⌜ (self .start ≤ self .end) × (unread self + r .got ≤ MAX) × (self .supply + r .got ≤ MAX) × (self .schedule + r .used ≤ MAX) ⌝ }
-        ensures { λ s. ⌜ s ≡ landed self r ⌝ }
+        ensures { λ s. ⌜ s ≡ filled self r ⌝ }
     {
         ParserSource {
             start: 0,
@@ -151,7 +151,7 @@ impl ParserSource {
         let len = self.end - self.start;
         reads::slide(buffer, self.start, len);
         let r = reads::fill_up(buffer, len, supply, self.supply, schedule, self.schedule);
-        let next = self.landed(r);
+        let next = self.filled(r);
         if r.failed {
             return Ensured::Refused(Stop {
                 error: ParserError::ReadFailed(self.position),
@@ -213,7 +213,7 @@ impl ParserSource {
         let len = self.end - self.start;
         reads::slide(buffer, self.start, len);
         let r = reads::read_once(buffer, len, supply, self.supply, schedule, self.schedule);
-        let next = self.landed(r);
+        let next = self.filled(r);
         if r.failed {
             return Refilled::Refused(Stop {
                 error: ParserError::ReadFailed(self.position),

@@ -1,4 +1,4 @@
-pub mod Laws
+pub mod Payloads
 pub mod Values
 pub mod Unique
 pub mod Walks

@@ -7,11 +7,11 @@ use Rattle.form.specs.Values as F
 use Rattle.form.specs.Readers.{Answer, found, refused, at, mapped, placed}
 use Rattle.form.specs.Reading.{token}
 use Rattle.form.proofs.Found.{All}
-use Rattle.form.proofs.TextsLast.{texts, Ends, token-ends-at}
+use Rattle.form.proofs.TextsLast.{ownText, Ends, token-ends-at}
 use Rattle.token.specs.Tokens.{tokenOf, valueOf, tokenAt}
 
 pub value-token : (s : List ℕ) (v : F.Value) (e : ℕ) → Ends s v e → valueOf s (tokenOf e v) ≡ v
-unfolding valueOf tokenOf texts
+unfolding valueOf tokenOf ownText
 value-token s F.Open e k = refl
 value-token s F.Close e k = refl
 value-token s F.Equal e k = refl

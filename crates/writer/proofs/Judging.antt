@@ -17,8 +17,8 @@ use Rattle.writer.specs.declared.Wrote.{Wrote}
 use Rattle.writer.proofs.Wrote.{the-type}
 use Rattle.writer.specs.declared.Wrote.the-variants.{Written, NotEncodable, NoRoom, BadPlace}
 use Rattle.writer.specs.Writes.{wroteOutcome, Fitted}
-use Rattle.writer.specs.declared.parts.Parts.{Parts}
-use Rattle.writer.specs.Parts.{spelledBy, misplacedBy, writableBy, writeBy}
+use Rattle.writer.specs.declared.layout.Layout.{Layout}
+use Rattle.writer.specs.Layouts.{spelledBy, misplacedBy, writableBy, writeBy}
 use Rattle.form.specs.Put.{Put}
 use Rattle.writer.proofs.Fitting.{fitted-written}
 use Rattle.form.proofs.Puts.{put-front}
@@ -33,7 +33,7 @@ refused-leaves (written bs) (NoRoom n) d e q = cc
 refused-leaves (written bs) (BadPlace p) d e q = cc
 
 -- what is written is the spelling, and it fits
-pub written-fits : (room : ℕ) (s : List ℕ) (p : Parts) {r : Wrote} {n : ℕ} → wroteOutcome r ≡ outcome (writeBy room s p) → r ≡ Written n
+pub written-fits : (room : ℕ) (s : List ℕ) (p : Layout) {r : Wrote} {n : ℕ} → wroteOutcome r ≡ outcome (writeBy room s p) → r ≡ Written n
     → (writeBy room s p ≡ written (spelledBy s p)) × (length (spelledBy s p) ≤ room)
 unfolding writeBy unless outcome
 written-fits room s p {r} {n} e q = placed (misplacedBy s p) (sym (ap wroteOutcome q) ∙ e)

@@ -1,6 +1,6 @@
 pub mod Stores
 pub mod Sizes
 pub mod Fitting
-pub mod Splitting
+pub mod LayingOut
 pub mod Judging
 pub mod Unique

@@ -11,7 +11,7 @@ use Rattle.payload.specs.declared.answers.Alpha.the-variants.{Absent, Given}
 use Rattle.payload.specs.declared.answers.Rgb.{Rgb}
 use Rattle.form.proofs.LittleEndian.{length-bytes}
 use Rattle.form.proofs.ReadsBack.{channel-length}
-use Rattle.writer.specs.Parts.{idNumber, idText, colourEnd, channels, idColour}
+use Rattle.writer.specs.Layouts.{idNumber, idText, colourEnd, channels, idColour}
 
 pub number-size : (i w n : ℕ) → length (idNumber i w n) ≡ 2 + w
 number-size i w n = simp (length-append, length-bytes)

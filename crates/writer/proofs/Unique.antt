@@ -9,7 +9,7 @@ use Rattle.form.proofs.Unique.{follows-one}
 use Rattle.token.specs.declared.Token.{Token}
 use Rattle.writer.specs.declared.Wrote.{Wrote}
 use Rattle.writer.specs.declared.Wrote.the-variants.{Written, NotEncodable, NoRoom, BadPlace}
-use Rattle.writer.specs.Parts.{idNumber}
+use Rattle.writer.specs.Layouts.{idNumber}
 use Rattle.writer.specs.Writes.{writeToken, wroteOutcome}
 
 -- the writer answers no other refusal

@@ -1,2 +1,2 @@
 pub mod Writes
-pub mod Parts
+pub mod Layouts

@@ -1,5 +1,5 @@
 // The checked writer: one token at the front of a lent output, or bytes that are spelled already, or an id and a number.
-mod parts;
+mod layout;
 mod put;
 
 ghost use mathlib.Core.Path.{_≡_};
@@ -7,9 +7,9 @@ ghost use mathlib.Core.List.{_++_};
 ghost use lib.ListN.{length};
 ghost use Rattle.form.specs.Numbers.{leBytes};
 ghost use Rattle.form.specs.Writing.{outcome, Follows, fitted};
-ghost use Rattle.writer.specs.Parts.{writeBy};
+ghost use Rattle.writer.specs.Layouts.{writeBy};
 ghost use Rattle.writer.specs.Writes.{writeToken, wroteOutcome, Fitted};
-use crate::parts::Parts;
+use crate::layout::Layout;
 use lexeme::LexemeId;
 use payload::Alpha;
 use payload::Text;
@@ -35,7 +35,7 @@ fn fit(need: usize, room: usize) -> Wrote
 }
 
 fn judge_text(bytes: &[u8], id: LexemeId, t: Text, room: usize) -> Wrote
-    ensures { λ r. ⌜ wroteOutcome r ≡ outcome (writeBy room (now (bytes .entry)) (Parts.Text id t)) ⌝ }
+    ensures { λ r. ⌜ wroteOutcome r ≡ outcome (writeBy room (now (bytes .entry)) (Layout.Text id t)) ⌝ }
 {
     let place = token::text(bytes, t);
     match place {
@@ -51,26 +51,26 @@ fn judge_text(bytes: &[u8], id: LexemeId, t: Text, room: usize) -> Wrote
 }
 
 // What a write of the parts answers.
-fn judge(bytes: &[u8], p: Parts, room: usize) -> Wrote
+fn judge(bytes: &[u8], p: Layout, room: usize) -> Wrote
     ensures { λ r. ⌜ wroteOutcome r ≡ outcome (writeBy room (now (bytes .entry)) p) ⌝ }
 {
     match p {
-        Parts::Number(_, width, _) => fit(2 + width as usize, room),
-        Parts::Text(id, t) => judge_text(bytes, id, t, room),
-        Parts::Lookup(n) => {
+        Layout::Number(_, width, _) => fit(2 + width as usize, room),
+        Layout::Text(id, t) => judge_text(bytes, id, t, room),
+        Layout::Lookup(n) => {
             if 0xff_ffff < n {
                 return Wrote::NotEncodable(0);
             }
             fit(5, room)
         }
-        Parts::Rgb(c) => {
+        Layout::Rgb(c) => {
             let a = c.a;
             match a {
                 Alpha::Absent => fit(24, room),
                 Alpha::Given(_) => fit(30, room),
             }
         }
-        Parts::Id(x) => {
+        Layout::Id(x) => {
             let id = LexemeId::new(x);
             if id.is_id() {
                 return fit(2, room);
@@ -84,12 +84,12 @@ fn judge(bytes: &[u8], p: Parts, room: usize) -> Wrote
 pub fn write(bytes: &[u8], token: Token, out: &mut [u8]) -> Wrote
     ensures { λ r. ⌜ Follows (writeToken (length (now (out .entry))) (now (bytes .entry)) token) (wroteOutcome r) (now (out .entry)) (now (out .exit)) ⌝ }
 {
-    let p = parts::split(token);
+    let p = layout::laid_out(token);
     let answer = judge(bytes, p, out.len());
     let Wrote::Written(_) = answer else {
         return answer;
     };
-    put::parts(out, 0, bytes, p);
+    put::layout(out, 0, bytes, p);
     answer
 }
 

@@ -4,8 +4,8 @@ ghost use lib.ListN.{length};
 ghost use Rattle.form.specs.Numbers.{leBytes};
 ghost use Rattle.form.specs.Put.{Put};
 ghost use Rattle.form.specs.Spelling.{spelledChannel};
-ghost use Rattle.writer.specs.Parts.{idNumber, idText, colourEnd, channels as Parts·channels, idColour, spelledBy};
-use crate::parts::Parts;
+ghost use Rattle.writer.specs.Layouts.{idNumber, idText, colourEnd, channels as Parts·channels, idColour, spelledBy};
+use crate::layout::Layout;
 use lexeme::LexemeId;
 use payload::Alpha;
 use payload::Rgb;
@@ -109,18 +109,18 @@ fn id_colour(out: &mut [u8], at: usize, c: Rgb) -> usize
 }
 
 // The parts of a token, whose text stands in bytes.
-pub(crate) fn parts(out: &mut [u8], at: usize, bytes: &[u8], p: Parts) -> usize
+pub(crate) fn layout(out: &mut [u8], at: usize, bytes: &[u8], p: Layout) -> usize
     requires { ⌜ at + length (spelledBy (now bytes) p) ≤ length (now out) ⌝ }
     ensures { λ r. ⌜ Put (now (out .entry)) at (spelledBy (now (bytes .entry)) p) (now (out .exit)) r ⌝ }
 {
     match p {
-        Parts::Number(x, width, n) => id_number(out, at, x, width as usize, n),
-        Parts::Text(x, t) => {
+        Layout::Number(x, width, n) => id_number(out, at, x, width as usize, n),
+        Layout::Text(x, t) => {
             let text = token::text_part(bytes, t);
             id_text(out, at, x, text)
         }
-        Parts::Lookup(n) => id_number(out, at, LexemeId::LOOKUP_U24, 3, n as u64),
-        Parts::Rgb(c) => id_colour(out, at, c),
-        Parts::Id(x) => id(out, at, LexemeId::new(x)),
+        Layout::Lookup(n) => id_number(out, at, LexemeId::LOOKUP_U24, 3, n as u64),
+        Layout::Rgb(c) => id_colour(out, at, c),
+        Layout::Id(x) => id(out, at, LexemeId::new(x)),
     }
 }

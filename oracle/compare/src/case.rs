@@ -16,7 +16,7 @@ pub trait Case: Sized {
         once(self.name())
     }
 
-    /// The original's answer; the paper's where the difference is listed.
+    /// The original's answer; FORMAT.md's where the difference is listed.
     fn expected(&self) -> Self::Seen;
 
     fn port(&self) -> Self::Seen;

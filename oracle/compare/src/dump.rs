@@ -1,4 +1,4 @@
-//! The dump of a save as the scope paper words it, from the original's tokens.
+//! The dump of a save as FORMAT.md words it, from the original's tokens.
 
 use protocol::{KINDS, Token, code, hex};
 

@@ -171,7 +171,7 @@ fn token(bytes: &[u8], at: usize, token: Token) -> Value {
     words(&[kind, a, b, c, d, e])
 }
 
-/// The original's text of EMPTY_STRING is no part of the input; the paper places it after the id.
+/// The original's text of EMPTY_STRING is no part of the input; FORMAT.md places it after the id.
 fn text_part(bytes: &[u8], at: usize, text: &[u8]) -> [u64; 2] {
     if bytes[at..].starts_with(&LexemeId::EMPTY_STRING.0.to_le_bytes()) {
         return [at as u64 + 2, text.len() as u64];

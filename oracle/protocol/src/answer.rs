@@ -2,7 +2,7 @@
 
 pub const WORDS: usize = 8;
 
-/// The refusals' numbers, and four more that are none of the paper's.
+/// The refusals' numbers, and four more that are none of FORMAT.md's.
 pub mod code {
     pub const ANSWERED: u32 = 0;
     pub const EOF: u32 = 1;

@@ -66,7 +66,7 @@ impl Source {
         if self.streaming { self.buffer.len() } else { self.supply.len() }
     }
 
-    /// The first number that does not fit, in the paper's order.
+    /// The first number that does not fit, in FORMAT.md's order.
     pub fn bad_place(&self) -> Option<usize> {
         let Numbers { start, end, supply, schedule, position } = self.numbers();
         let ends = [(start, end), (end, self.held()), (supply, self.supply.len()), (schedule, self.schedule.len())];

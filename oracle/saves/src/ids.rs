@@ -1,4 +1,4 @@
-//! The table of ids of the scope paper, for making saves.
+//! The table of ids of FORMAT.md, for making saves.
 
 pub const EQUAL: u16 = 0x0001;
 pub const OPEN: u16 = 0x0003;

@@ -1,7 +1,7 @@
 -- `fast::compact` meets its contract: seven bytes are there, so that the read is never refused. Assumes nothing.
 use Rattle.payload.specs.Answers.{u64Answer}
-use Rattle.payload.proofs.Laws.{gotOf}
-use Rattle.fast.proofs.Laws.{compact-got, compact-never}
+use Rattle.payload.proofs.LetElse.{gotOf}
+use Rattle.fast.proofs.Holding.{compact-got, compact-never}
 use borrow.Author.Needs.{needs}
 use Rattle.fast.proofs.compact.Statement.{statement}
 use Rattle.fast.proofs.compact.Tie as tie

@@ -5,8 +5,8 @@ use borrow.Author.Tests.{le-leb, lt-leb}
 use Rattle.form.specs.Fast.{fastStep, stepBy}
 use Rattle.form.specs.Table.{after}
 use Rattle.payload.specs.Answers.{idAnswer}
-use Rattle.payload.proofs.Laws.{gotOf}
-use Rattle.fast.proofs.Laws.{id-got, id-never}
+use Rattle.payload.proofs.LetElse.{gotOf}
+use Rattle.fast.proofs.Holding.{id-got, id-never}
 use borrow.Author.Needs.{needs}
 use Rattle.fast.proofs.next_token_fast.Statement.{statement}
 use Rattle.fast.proofs.next_token_fast.Tie as tie

@@ -2,8 +2,8 @@
 use native.Mathlib.Omega.{arith}
 use mathlib.Core.Path.{_∙_}
 use Rattle.payload.specs.Answers.{textAnswer}
-use Rattle.payload.proofs.Laws.{gotOf}
-use Rattle.fast.proofs.Laws.{text-within, text-got, text-slow}
+use Rattle.payload.proofs.LetElse.{gotOf}
+use Rattle.fast.proofs.Holding.{text-within, text-got, text-slow}
 use borrow.Author.Needs.{needs}
 use Rattle.fast.proofs.string.Statement.{statement}
 use Rattle.fast.proofs.string.Tie as tie

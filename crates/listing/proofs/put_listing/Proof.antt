@@ -6,7 +6,7 @@ use Prim.Native.Nat.{_+_, _-_, _≤_}
 use native.Mathlib.Omega.{arith}
 use lib.ListN.{length}
 use Rattle.form.specs.Listing.{listing}
-use Rattle.payload.proofs.Laws.{gotOf, elseOf}
+use Rattle.payload.proofs.LetElse.{gotOf, elseOf}
 use Rattle.form.proofs.Puts.{Left, left-all, left-step, left-last}
 use Rattle.token.specs.Tokens.{valueOf, tokenAnswer}
 use Rattle.token.proofs.Walks.{token-read, token-refused}

@@ -4,8 +4,8 @@ use native.Mathlib.Omega.{arith}
 use mathlib.Core.Path.{_≡_, sym, ap, _∙_}
 use mathlib.Core.List.{[]}
 use denote.Ref.{now}
-use Rattle.normaliser.specs.Parts.{between}
-use Rattle.normaliser.proofs.Parts.{between-length, between-none}
+use Rattle.normaliser.specs.Stretches.{between}
+use Rattle.normaliser.proofs.Joining.{between-length, between-none}
 use Rattle.normaliser.proofs.Passing.{appends, appends-none}
 use Rattle.normaliser.proofs.copy_run.Statement.{statement}
 use Rattle.normaliser.proofs.copy_run.Tie as tie

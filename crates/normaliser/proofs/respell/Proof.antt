@@ -4,7 +4,7 @@ use Prim.Native.Nat.{_<_}
 use native.Mathlib.Omega.{arith}
 use mathlib.Core.Path.{refl}
 use lib.ListN.{length}
-use Rattle.payload.proofs.Laws.{gotOf, elseOf}
+use Rattle.payload.proofs.LetElse.{gotOf, elseOf}
 use Rattle.token.specs.Tokens.{tokenAnswer}
 use Rattle.normaliser.proofs.Respelling.{next-refused, next-written, next-counted, next-wide}
 use Rattle.normaliser.proofs.respell.Statement.{statement}

@@ -3,7 +3,7 @@ use mathlib.Core.Path.{refl}
 use Rattle.form.specs.Readers.{mapped}
 use borrow.Author.Needs.{needs}
 use Rattle.payload.specs.Answers.{u64Answer}
-use Rattle.payload.proofs.Laws.{gotOf, elseOf}
+use Rattle.payload.proofs.LetElse.{gotOf, elseOf}
 use Rattle.payload.proofs.read_bool.Statement.{statement}
 use Rattle.payload.proofs.read_bool.Tie as tie
 

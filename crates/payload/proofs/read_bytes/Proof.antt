@@ -7,7 +7,7 @@ use lib.Seq.{length-take-le}
 use borrow.Author.Needs.{needs}
 use Rattle.form.specs.Readers.{placed}
 use Rattle.form.proofs.Places.{at-next, at-short}
-use Rattle.split.proofs.Laws.{there, short}
+use Rattle.split.proofs.Enough.{there, short}
 use Rattle.payload.proofs.read_bytes.Statement.{statement}
 use Rattle.payload.proofs.read_bytes.Tie as tie
 

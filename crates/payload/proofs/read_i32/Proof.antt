@@ -7,7 +7,7 @@ use Rattle.form.specs.Readers.{mapped}
 use Rattle.form.proofs.Places.{num-lt}
 use borrow.Author.Needs.{needs}
 use Rattle.payload.specs.Answers.{u64Answer}
-use Rattle.payload.proofs.Laws.{gotOf, elseOf}
+use Rattle.payload.proofs.LetElse.{gotOf, elseOf}
 use Rattle.payload.proofs.read_i32.Statement.{statement}
 use Rattle.payload.proofs.read_i32.Tie as tie
 

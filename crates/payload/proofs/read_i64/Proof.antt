@@ -5,7 +5,7 @@ use mir.Val.{toZ, ofZ}
 use Rattle.form.specs.Readers.{mapped}
 use borrow.Author.Needs.{needs}
 use Rattle.payload.specs.Answers.{u64Answer}
-use Rattle.payload.proofs.Laws.{gotOf, elseOf}
+use Rattle.payload.proofs.LetElse.{gotOf, elseOf}
 use Rattle.payload.proofs.read_i64.Statement.{statement}
 use Rattle.payload.proofs.read_i64.Tie as tie
 

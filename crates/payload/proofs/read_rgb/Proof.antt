@@ -5,9 +5,9 @@ use lib.ListN.{length, length-drop}
 use borrow.Author.Needs.{needs}
 use Rattle.form.specs.Readers.{further}
 use Rattle.form.specs.Reading.{rgb}
-use Rattle.split.proofs.Laws.{rest-drop}
+use Rattle.split.proofs.Enough.{rest-drop}
 use Rattle.payload.specs.Answers.{rgbAnswer}
-use Rattle.payload.proofs.Laws.{gotOf}
+use Rattle.payload.proofs.LetElse.{gotOf}
 use Rattle.payload.proofs.Rests.{from-rest, colour-in}
 use Rattle.payload.proofs.read_rgb.Statement.{statement}
 use Rattle.payload.proofs.read_rgb.Tie as tie

@@ -4,7 +4,7 @@ use Rattle.form.specs.Readers.{andThen, placed}
 use Rattle.form.proofs.Places.{string-then}
 use borrow.Author.Needs.{needs}
 use Rattle.payload.specs.Answers.{u64Answer, textAnswer}
-use Rattle.payload.proofs.Laws.{gotOf, elseOf}
+use Rattle.payload.proofs.LetElse.{gotOf, elseOf}
 use Rattle.payload.proofs.read_string.Statement.{statement}
 use Rattle.payload.proofs.read_string.Tie as tie
 

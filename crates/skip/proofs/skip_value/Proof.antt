@@ -2,7 +2,7 @@
 use mathlib.Core.Path.{refl, sym, _∙_}
 use borrow.Author.Tests.{eqb-false}
 use Rattle.payload.specs.Answers.{rgbAnswer}
-use Rattle.payload.proofs.Laws.{gotOf, elseOf}
+use Rattle.payload.proofs.LetElse.{gotOf, elseOf}
 use Rattle.skip.proofs.Turns.{value-is, past-colour, no-colour}
 use borrow.Author.Needs.{needs}
 use Rattle.skip.proofs.skip_value.Statement.{statement}

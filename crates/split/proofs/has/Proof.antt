@@ -3,7 +3,7 @@ use native.Mathlib.Omega.{arith}
 use mathlib.Core.Path.{_≡_, sym, ap, _∙_}
 use lib.Dec.{leb}
 use lib.ListN.{length, drop, length-drop}
-use Rattle.split.proofs.Laws.{of-none}
+use Rattle.split.proofs.Enough.{of-none}
 use Rattle.split.proofs.has.Statement.{statement}
 use Rattle.split.proofs.has.Tie as tie
 

@@ -11,7 +11,7 @@ use Rattle.form.specs.Table.{table, entries, find, orPlain, after}
 use Rattle.form.proofs.Lookups.{unquoted-at, lookup1-at, lookup2-at, lookup3-at, lookup4-at, compact-at, negated-in, plain-below, plain-above, range-from}
 use Rattle.token.specs.Tokens.{tokenOf}
 use Rattle.token.specs.declared.Token.the-variants as T
-use Rattle.token.proofs.Laws.{by-entry, number-at, through-at, text-at, colour-at, compact-from, nothing-at, empty-at, compact-is}
+use Rattle.token.proofs.Payloads.{by-entry, number-at, through-at, text-at, colour-at, compact-from, nothing-at, empty-at, compact-is}
 use borrow.Rule.Slice.PartAt.{part-to-end}
 use borrow.Author.Needs.{needs}
 use Rattle.token.proofs.by_id.Statement.{statement}

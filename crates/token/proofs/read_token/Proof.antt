@@ -1,6 +1,6 @@
 -- `token::read_token` meets its contract. Assumes nothing.
 use mathlib.Core.Path.{refl}
-use Rattle.token.proofs.Laws.{after-id, no-id}
+use Rattle.token.proofs.Payloads.{after-id, no-id}
 use borrow.Author.Needs.{needs}
 use Rattle.token.proofs.read_token.Statement.{statement}
 use Rattle.token.proofs.read_token.Tie as tie

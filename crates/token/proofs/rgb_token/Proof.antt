@@ -2,7 +2,7 @@
 use mathlib.Core.Path.{refl}
 use Rattle.payload.specs.Answers.{rgbAnswer}
 use Rattle.token.specs.Tokens.{tokenOf}
-use Rattle.token.proofs.Laws.{getting, refusing, colour-token}
+use Rattle.token.proofs.Payloads.{getting, refusing, colour-token}
 use borrow.Author.Needs.{needs}
 use Rattle.token.proofs.rgb_token.Statement.{statement}
 use Rattle.token.proofs.rgb_token.Tie as tie

@@ -8,7 +8,7 @@ use borrow.Author.Tests.{lt-ltb, le-ltb}
 use Rattle.form.specs.Table.{reserved}
 use Rattle.form.specs.Writing.{outcome, unless}
 use Rattle.form.proofs.LittleEndian.{length-bytes}
-use Rattle.writer.specs.Parts.{spelledBy, misplacedBy, writableBy, writeBy}
+use Rattle.writer.specs.Layouts.{spelledBy, misplacedBy, writableBy, writeBy}
 use Rattle.writer.proofs.Sizes.{number-size, endSize, colour-size}
 use Rattle.writer.proofs.judge.Statement.{statement}
 use Rattle.writer.proofs.judge.Tie as tie

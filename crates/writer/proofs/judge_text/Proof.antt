@@ -10,9 +10,9 @@ use Rattle.form.specs.Refusals.{BadPlace}
 use Rattle.form.specs.Writing.{outcome, unless}
 use Rattle.payload.specs.Texts.{partOf}
 use Rattle.token.specs.Texts.{placeOf, placeAnswer}
-use Rattle.writer.specs.Parts.{spelledBy, misplacedBy, writableBy, writeBy}
+use Rattle.writer.specs.Layouts.{spelledBy, misplacedBy, writableBy, writeBy}
 use Rattle.writer.proofs.Sizes.{text-size}
-use Rattle.writer.proofs.Splitting.{placed-length}
+use Rattle.writer.proofs.LayingOut.{placed-length}
 use Rattle.writer.proofs.judge_text.Statement.{statement}
 use Rattle.writer.proofs.judge_text.Tie as tie
 

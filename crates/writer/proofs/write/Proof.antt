@@ -14,31 +14,31 @@ use Rattle.writer.proofs.write.Tie as tie
 returns : tie.Need-returns
 returns c =
     let a = c .before .before .before .before .before .args in
-    let w = c .before .before .split .ensures (length (now (a .out))) (now (a .bytes)) in
+    let w = c .before .before .laid-out .ensures (length (now (a .out))) (now (a .bytes)) in
     let e = c .before .judge .ensures ∙ ap outcome w in
     record {
       answer = e;
       output = sym (refused-leaves (writeToken (length (now (a .out))) (now (a .bytes)) (a .token)) (c .before .judge .result) (now (a .out)) e (c .match .keys2));
     }
 
-parts-requires : tie.Need-parts-requires
-parts-requires c κs =
+layout-requires : tie.Need-layout-requires
+layout-requires c κs =
     let a = c .before .before .before .before .before .before .before .args in
-    omega (arith, written-fits (length (now (a .out))) (now (a .bytes)) (c .before .before .before .before .split .result) (c .before .before .before .judge .ensures) (c .before .enum-told .given .1) .1)
+    omega (arith, written-fits (length (now (a .out))) (now (a .bytes)) (c .before .before .before .before .laid-out .result) (c .before .before .before .judge .ensures) (c .before .enum-told .given .1) .1)
 
 returns-2 : tie.Need-returns-2
 unfolding leaves
 returns-2 c =
     let k = c .before .before .before .before .before .before in
     let a = k .before .before .before .before .args in
-    let w = k .before .split .ensures (length (now (a .out))) (now (a .bytes)) in
-    let f = written-fits (length (now (a .out))) (now (a .bytes)) (k .before .split .result) (k .judge .ensures) (c .before .before .before .before .enum-told .given .1) in
+    let w = k .before .laid-out .ensures (length (now (a .out))) (now (a .bytes)) in
+    let f = written-fits (length (now (a .out))) (now (a .bytes)) (k .before .laid-out .result) (k .judge .ensures) (c .before .before .before .before .enum-told .given .1) in
     record {
       answer = k .judge .ensures ∙ ap outcome w;
-      output = put-front (omega arith) (f .1) (c .before .before .parts .ensures) ∙ ap (λ o. leaves o (now (a .out))) (sym (f .0) ∙ w);
+      output = put-front (omega arith) (f .1) (c .before .before .layout .ensures) ∙ ap (λ o. leaves o (now (a .out))) (sym (f .0) ∙ w);
     }
 
 pub write-spec : {M : Type 1} → statement M
 write-spec =
     tie.close
-    (tie.spec (λ c κs. search needs) (λ c κs. search needs) (λ c. search needs) returns parts-requires (λ c. search needs) returns-2)
+    (tie.spec (λ c κs. search needs) (λ c κs. search needs) (λ c. search needs) returns layout-requires (λ c. search needs) returns-2)

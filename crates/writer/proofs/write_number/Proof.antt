@@ -2,7 +2,7 @@
 use borrow.Author.Needs.{needs}
 use native.Mathlib.Omega.{arith}
 use denote.Ref.{now}
-use Rattle.writer.specs.Parts.{idNumber}
+use Rattle.writer.specs.Layouts.{idNumber}
 use Rattle.writer.proofs.Judging.{not-stored, room, stored}
 use Rattle.writer.proofs.Sizes.{number-size}
 use Rattle.writer.proofs.write_number.Statement.{statement}

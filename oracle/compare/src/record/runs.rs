@@ -73,7 +73,7 @@ fn header() -> String {
         "\
 # What the programs print, by the tokens of {origin}, written by: oracle/run --record-runs FILE
 # The original read the inputs and spelled the tokens; the port was not asked. The dump's words, the lines of refusals and the limits are
-# the paper's.
+# FORMAT.md's.
 # PROGRAM PIECES INPUT FORM OUTPUT
 # PIECES: in how many the input comes, with a pause between them.
 # INPUT: lower-case hex, - for no bytes, in parts with + between them, BYTES*COUNT for bytes repeated; or a path in this repository.

@@ -71,7 +71,7 @@ fn under_way() -> Vec<Source> {
     ]
 }
 
-/// The paper's answers: each number that does not fit, the first of several, and sixth words of no source.
+/// FORMAT.md's answers: each number that does not fit, the first of several, and sixth words of no source.
 fn bad_states(sample: &mut Sample) {
     let stream = Source::stream(vec![1, 2, 3], vec![4, 5], vec![1]);
     let slice = Source { streaming: false, ..stream.clone() };

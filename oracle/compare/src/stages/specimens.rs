@@ -1,4 +1,4 @@
-//! The scope paper's specimens, with its words for their answers.
+//! FORMAT.md's specimens, with its words for their answers.
 
 use super::sweep::every_place;
 use crate::case::Case;
@@ -10,7 +10,7 @@ use protocol::{Request, output_line};
 /// Request and answer, one specimen a line.
 const SPECIMENS: &str = include_str!("specimens.txt");
 
-/// The original must answer as the paper says, and so must the port.
+/// The original must answer as FORMAT.md says, and so must the port.
 struct Specimen {
     /// The request's.
     line: &'static str,

@@ -37,7 +37,7 @@ impl Program {
         }
     }
 
-    /// What the paper has it print.
+    /// What FORMAT.md has it print.
     pub fn prints(self, bytes: &[u8]) -> Vec<u8> {
         if bytes.len() > self.longest() {
             return b"too long\n".to_vec();

@@ -6,7 +6,7 @@ use mathlib.Core.Path.{_≡_, refl, sym, _∙_}
 use lib.ListN.{length}
 use borrow.Author.Needs.{needs}
 use Rattle.form.proofs.Walking.{from}
-use Rattle.payload.proofs.Laws.{gotOf, elseOf}
+use Rattle.payload.proofs.LetElse.{gotOf, elseOf}
 use Rattle.token.specs.Tokens.{tokenAnswer}
 use Rattle.token.proofs.Walks.{token-read}
 use Rattle.lexer.specs.Calls.{refusalOf}

@@ -3,7 +3,7 @@ use native.Mathlib.Omega.{arith}
 use mathlib.Core.Path.{refl}
 use lib.ListN.{length-set}
 use borrow.Author.Needs.{needs}
-use Rattle.capi.proofs.Laws.{too-short, filled}
+use Rattle.capi.proofs.LentLists.{too-short, filled}
 use Rattle.capi.proofs.replies.store.Statement.{statement}
 use Rattle.capi.proofs.replies.store.Tie as tie
 

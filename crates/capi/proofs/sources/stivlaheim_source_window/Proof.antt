@@ -1,9 +1,9 @@
 -- `capi::sources::stivlaheim_source_window` meets its contract. Assumes nothing.
 use mathlib.Core.Path.{ap}
 use Rattle.payload.specs.declared.answers.Text.{Text}
-use Rattle.source.specs.Window.{Step}
+use Rattle.source.specs.Window.{Drawn}
 use Rattle.source.specs.Answers.{windowLenAnswer}
-use Rattle.capi.specs.Sources.{partOf, windowPart}
+use Rattle.capi.specs.Sources.{asPart, windowPart}
 use Rattle.capi.proofs.Called.{not-asked, six-words, answers}
 use borrow.Author.Needs.{needs}
 use Rattle.capi.proofs.sources.stivlaheim_source_window.Statement.{statement}
@@ -23,7 +23,7 @@ returns-2 c =
     let t = l .before in
     let k = t .before .before in
     let s = k .a .given .0 .0 in
-    answers _ _ (k .before .before .ask .ensures) _ _ _ (λ l. partOf (windowLenAnswer s (t .window-len .result) l)) (l .of-window .result) (k .a .given .1) (ap {B = Step Text} partOf (t .window-len .ensures)) (l .of-window .ensures) (h .hand-over .ensures)
+    answers _ _ (k .before .before .ask .ensures) _ _ _ (λ l. asPart (windowLenAnswer s (t .window-len .result) l)) (l .of-window .result) (k .a .given .1) (ap {B = Drawn Text} asPart (t .window-len .ensures)) (l .of-window .ensures) (h .hand-over .ensures)
 
 pub stivlaheim-source-window-spec : {M : Type 1} → statement M
 stivlaheim-source-window-spec =

@@ -1,6 +1,6 @@
 -- `capi::writing::stivlaheim_list` meets its contract. Assumes nothing.
 use borrow.Author.Tests.{le-leb, lt-leb}
-use Rattle.capi.proofs.Laws.{too-short}
+use Rattle.capi.proofs.LentLists.{too-short}
 use borrow.Author.Needs.{needs}
 use Rattle.capi.proofs.writing.stivlaheim_list.Statement.{statement}
 use Rattle.capi.proofs.writing.stivlaheim_list.Tie as tie

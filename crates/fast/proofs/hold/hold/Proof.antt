@@ -5,7 +5,7 @@ use mathlib.Core.List.{_++_}
 use native.Mathlib.Omega.{arith}
 use lib.ListN.{length, take, drop, length-drop}
 use borrow.Author.Needs.{needs}
-use Rattle.fast.proofs.Laws.{hold-more}
+use Rattle.fast.proofs.Holding.{hold-more}
 use Rattle.fast.proofs.hold.hold.Statement.{statement}
 use Rattle.fast.proofs.hold.hold.Tie as tie
 

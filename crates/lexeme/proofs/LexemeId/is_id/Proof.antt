@@ -3,7 +3,7 @@
 use mathlib.Core.Path.{_≡_, refl, sym, ap, _∙_}
 use mathlib.Core.List.{[], _∷_}
 use Rattle.form.proofs.Lookups.{arm}
-use Rattle.lexeme.proofs.Laws.{isId, id-plain}
+use Rattle.lexeme.proofs.PlainKinds.{isId, id-plain}
 use borrow.Author.Needs.{needs}
 use Rattle.lexeme.specs.Kinds.{kindNumber}
 use Rattle.lexeme.specs.declared.TokenKind.{TokenKind}

@@ -1,7 +1,7 @@
 -- `lexer::Lexer::land` meets its contract. Assumes nothing.
 use borrow.Author.Needs.{needs}
 use Rattle.form.specs.Calls.{landed}
-use Rattle.lexer.proofs.Laws.{land-cut}
+use Rattle.lexer.proofs.Endings.{land-cut}
 use Rattle.lexer.proofs.Lexer.land.Statement.{statement}
 use Rattle.lexer.proofs.Lexer.land.Tie as tie
 

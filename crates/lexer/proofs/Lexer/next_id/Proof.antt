@@ -3,7 +3,7 @@ use borrow.Author.Needs.{needs}
 use native.Mathlib.Omega.{arith}
 use Rattle.form.proofs.Inside.{num-inside}
 use Rattle.lexer.specs.Calls.{idCall}
-use Rattle.lexer.proofs.Laws.{told, next-got, next-end, next-cut}
+use Rattle.lexer.proofs.Endings.{told, next-got, next-end, next-cut}
 use Rattle.lexer.proofs.Lexer.next_id.Statement.{statement}
 use Rattle.lexer.proofs.Lexer.next_id.Tie as tie
 

@@ -1,7 +1,7 @@
 -- `lexer::Lexer::next_token` meets its contract. Assumes nothing.
 use borrow.Author.Needs.{needs}
 use Rattle.lexer.specs.Calls.{tokenCall}
-use Rattle.lexer.proofs.Laws.{told, token-begins, next-got, next-end, next-cut}
+use Rattle.lexer.proofs.Endings.{told, token-begins, next-got, next-end, next-cut}
 use Rattle.lexer.proofs.Lexer.next_token.Statement.{statement}
 use Rattle.lexer.proofs.Lexer.next_token.Tie as tie
 

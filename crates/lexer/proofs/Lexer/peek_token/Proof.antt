@@ -1,7 +1,7 @@
 -- `lexer::Lexer::peek_token` meets its contract. Assumes nothing.
 use borrow.Author.Needs.{needs}
 use Rattle.lexer.specs.Calls.{tokenCall}
-use Rattle.lexer.proofs.Laws.{told, peek-got, peek-none, peek-bad}
+use Rattle.lexer.proofs.Endings.{told, peek-got, peek-none, peek-bad}
 use Rattle.lexer.proofs.Lexer.peek_token.Statement.{statement}
 use Rattle.lexer.proofs.Lexer.peek_token.Tie as tie
 

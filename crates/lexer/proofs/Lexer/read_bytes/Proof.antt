@@ -3,9 +3,9 @@ use borrow.Author.Needs.{needs}
 use mathlib.Core.Path.{refl}
 use Rattle.form.specs.Calls.{reads}
 use Rattle.payload.specs.Answers.{textAnswer}
-use Rattle.payload.proofs.Laws.{gotOf, elseOf}
+use Rattle.payload.proofs.LetElse.{gotOf, elseOf}
 use Rattle.lexer.specs.Calls.{placeCall, bytesAt}
-use Rattle.lexer.proofs.Laws.{told, inside, outside, inside-got, inside-cut}
+use Rattle.lexer.proofs.Endings.{told, inside, outside, inside-got, inside-cut}
 use Rattle.lexer.proofs.Lexer.read_bytes.Statement.{statement}
 use Rattle.lexer.proofs.Lexer.read_bytes.Tie as tie
 

@@ -3,8 +3,8 @@ use borrow.Author.Needs.{needs}
 use mathlib.Core.Path.{refl}
 use Rattle.form.proofs.Inside.{rgb-inside}
 use Rattle.payload.specs.Answers.{rgbAnswer}
-use Rattle.payload.proofs.Laws.{gotOf, elseOf}
-use Rattle.lexer.proofs.Laws.{got, cut}
+use Rattle.payload.proofs.LetElse.{gotOf, elseOf}
+use Rattle.lexer.proofs.Endings.{got, cut}
 use Rattle.lexer.proofs.Lexer.read_rgb.Statement.{statement}
 use Rattle.lexer.proofs.Lexer.read_rgb.Tie as tie
 

@@ -5,8 +5,8 @@ use Rattle.form.specs.Readers.{at}
 use Rattle.form.specs.Reading.{string}
 use Rattle.form.proofs.Inside.{inside-placed, string-inside}
 use Rattle.payload.specs.Answers.{textAnswer}
-use Rattle.payload.proofs.Laws.{gotOf, elseOf}
-use Rattle.lexer.proofs.Laws.{got, cut}
+use Rattle.payload.proofs.LetElse.{gotOf, elseOf}
+use Rattle.lexer.proofs.Endings.{got, cut}
 use Rattle.lexer.proofs.Lexer.read_string.Statement.{statement}
 use Rattle.lexer.proofs.Lexer.read_string.Tie as tie
 

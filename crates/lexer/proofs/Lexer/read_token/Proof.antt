@@ -2,8 +2,8 @@
 use borrow.Author.Needs.{needs}
 use mathlib.Core.Path.{refl}
 use Rattle.token.specs.Tokens.{tokenAnswer}
-use Rattle.payload.proofs.Laws.{gotOf, elseOf}
-use Rattle.lexer.proofs.Laws.{token-begins, got, cut}
+use Rattle.payload.proofs.LetElse.{gotOf, elseOf}
+use Rattle.lexer.proofs.Endings.{token-begins, got, cut}
 use Rattle.lexer.proofs.Lexer.read_token.Statement.{statement}
 use Rattle.lexer.proofs.Lexer.read_token.Tie as tie
 

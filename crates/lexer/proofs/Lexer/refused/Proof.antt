@@ -3,7 +3,7 @@ use borrow.Author.Needs.{needs}
 use mathlib.Core.Path.{ap, _∙_}
 use Rattle.form.specs.Calls.{refuses, ended, reads}
 use Rattle.lexer.specs.Calls.{cursorOf, placeCall}
-use Rattle.lexer.proofs.Laws.{told, within-in, inside, outside}
+use Rattle.lexer.proofs.Endings.{told, within-in, inside, outside}
 use Rattle.lexer.proofs.Lexer.refused.Statement.{statement}
 use Rattle.lexer.proofs.Lexer.refused.Tie as tie
 

@@ -2,7 +2,7 @@
 use borrow.Author.Needs.{needs}
 use native.Mathlib.Omega.{arith}
 use Rattle.lexer.specs.Calls.{placeCall}
-use Rattle.lexer.proofs.Laws.{told, within-in, inside, outside}
+use Rattle.lexer.proofs.Endings.{told, within-in, inside, outside}
 use Rattle.lexer.proofs.Lexer.remainder.Statement.{statement}
 use Rattle.lexer.proofs.Lexer.remainder.Tie as tie
 

@@ -2,7 +2,7 @@
 use borrow.Author.Needs.{needs}
 use Rattle.form.specs.Calls.{skips}
 use Rattle.lexer.specs.Calls.{placeCall}
-use Rattle.lexer.proofs.Laws.{told, inside, outside, skipped}
+use Rattle.lexer.proofs.Endings.{told, inside, outside, skipped}
 use Rattle.lexer.proofs.Lexer.skip_container.Statement.{statement}
 use Rattle.lexer.proofs.Lexer.skip_container.Tie as tie
 

@@ -7,7 +7,7 @@ use lib.Seq.{length-take-le}
 use Rattle.form.specs.Ascii.{line}
 use Rattle.form.proofs.Puts.{put-then}
 use Rattle.text.proofs.Words.{put-words}
-use Rattle.listing.specs.Parts.{lineOf}
+use Rattle.listing.specs.Shapes.{lineOf}
 use Rattle.listing.proofs.Lines.{short}
 use borrow.Author.Needs.{needs}
 use Rattle.listing.proofs.line.put_line.Statement.{statement}
@@ -15,15 +15,15 @@ use Rattle.listing.proofs.line.put_line.Tie as tie
 
 array-share-prefix-name : tie.Need-array-share-prefix-name
 array-share-prefix-name c =
-    let l : c .before .before .before .before .before .before .parts-of .result .len ≤ length (c .before .before .before .before .before .before .parts-of .result .name) = rw (c .before .before .before .before .before .before .parts-of .ensures) (short (c .before .before .before .before .before .before .before .before .before .args .t)) in
+    let l : c .before .before .before .before .before .before .shown-as .result .len ≤ length (c .before .before .before .before .before .before .shown-as .result .name) = rw (c .before .before .before .before .before .before .shown-as .ensures) (short (c .before .before .before .before .before .before .before .before .before .args .t)) in
     omega (arith, l)
 
 slice-aggregate-put-word : tie.Need-slice-aggregate-put-word
-slice-aggregate-put-word c = sym (length-take-le _ _ (rw (c .before .before .before .before .before .before .before .parts-of .ensures) (short (c .before .before .before .before .before .before .before .before .before .before .args .t))))
+slice-aggregate-put-word c = sym (length-take-le _ _ (rw (c .before .before .before .before .before .before .before .shown-as .ensures) (short (c .before .before .before .before .before .before .before .before .before .before .args .t))))
 
 returns : tie.Need-returns
 unfolding lineOf line
-returns c = rw (← c .before .before .before .before .before .before .before .before .before .before .before .before .before .before .before .before .before .before .parts-of .ensures) (put-then (c .before .before .before .before .before .before .before .before .before .before .before .before .before .before .before .put-decimal .ensures) (put-then (put-words _ _ (c .before .before .before .before .before .before .before .before .before .before .put-word .ensures) (c .before .before .before .before .before .before .put-shape .ensures)) (c .before .before .put .ensures)))
+returns c = rw (← c .before .before .before .before .before .before .before .before .before .before .before .before .before .before .before .before .before .before .shown-as .ensures) (put-then (c .before .before .before .before .before .before .before .before .before .before .before .before .before .before .before .put-decimal .ensures) (put-then (put-words _ _ (c .before .before .before .before .before .before .before .before .before .before .put-word .ensures) (c .before .before .before .before .before .before .put-shape .ensures)) (c .before .before .put .ensures)))
 
 pub put-line-spec : {M : Type 1} → statement M
 put-line-spec =

@@ -6,7 +6,7 @@ use mir.Val.{toZ, ofZ}
 use Rattle.form.specs.Ascii.{spaced}
 use Rattle.form.proofs.Puts.{put-none}
 use Rattle.text.proofs.Words.{put-spaced}
-use Rattle.listing.specs.Parts.{shapeWords}
+use Rattle.listing.specs.Shapes.{shapeWords}
 use borrow.Author.Needs.{needs}
 use Rattle.listing.proofs.line.put_shape.Statement.{statement}
 use Rattle.listing.proofs.line.put_shape.Tie as tie

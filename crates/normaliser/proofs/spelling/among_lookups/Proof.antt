@@ -6,8 +6,8 @@ use mathlib.Core.Path.{_∙_}
 use mathlib.Core.Bool.{true, false}
 use mathlib.Core.Logic.{inr}
 use Rattle.form.proofs.Lookups.{lookup1-at, lookup2-at, lookup3-at, lookup4-at, compact-in, negated-in}
-use Rattle.form.proofs.Standing.{of-one, Kept, threes, threes-kept}
-use Rattle.token.proofs.Laws.{compact-is}
+use Rattle.form.proofs.Standing.{of-one, Kept, kept3, threes-kept}
+use Rattle.token.proofs.Payloads.{compact-is}
 use Rattle.payload.specs.Compact.{signedBy}
 use Rattle.normaliser.proofs.Spelled.{number-arm, lookup-arm, float-arm}
 use Rattle.normaliser.proofs.spelling.among_lookups.Statement.{statement}
@@ -28,7 +28,7 @@ returns-3 c p e =
 returns-4 : tie.Need-returns-4
 returns-4 c p e =
     let a = c .before .before .before .args in
-    number-arm (a .bytes .now) (c .before .before .shared-slice-known .given) p e (of-one (Kept 3) threes threes-kept (c .before .match .keys1)) (c .fixed .result) (c .fixed .ensures)
+    number-arm (a .bytes .now) (c .before .before .shared-slice-known .given) p e (of-one (Kept 3) kept3 threes-kept (c .before .match .keys1)) (c .fixed .result) (c .fixed .ensures)
 
 returns-5 : tie.Need-returns-5
 returns-5 c p e =

@@ -2,7 +2,7 @@
 use borrow.Author.Needs.{needs}
 use borrow.Rule.Slice.PartAt.{part-to-end}
 use Rattle.payload.specs.Answers.{rgbAnswer}
-use Rattle.payload.proofs.Laws.{gotOf}
+use Rattle.payload.proofs.LetElse.{gotOf}
 use Rattle.normaliser.proofs.spelling.colour.Statement.{statement}
 use Rattle.normaliser.proofs.spelling.colour.Tie as tie
 

@@ -1,7 +1,7 @@
 -- `normaliser::spelling::string` meets its contract. Assumes nothing.
 use borrow.Author.Needs.{needs}
 use Rattle.payload.specs.Answers.{textAnswer, textOf}
-use Rattle.payload.proofs.Laws.{gotOf, placed-found}
+use Rattle.payload.proofs.LetElse.{gotOf, placed-found}
 use Rattle.normaliser.proofs.spelling.string.Statement.{statement}
 use Rattle.normaliser.proofs.spelling.string.Tie as tie
 

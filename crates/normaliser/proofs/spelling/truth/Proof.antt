@@ -2,7 +2,7 @@
 use borrow.Author.Needs.{needs}
 use native.Mathlib.Omega.{arith}
 use Rattle.payload.specs.Answers.{u8Answer}
-use Rattle.payload.proofs.Laws.{gotOf}
+use Rattle.payload.proofs.LetElse.{gotOf}
 use Rattle.normaliser.proofs.spelling.truth.Statement.{statement}
 use Rattle.normaliser.proofs.spelling.truth.Tie as tie
 

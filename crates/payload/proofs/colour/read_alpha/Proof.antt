@@ -5,7 +5,7 @@ use Rattle.form.specs.Readers.{andThen}
 use Rattle.form.proofs.Lookups.{close-is}
 use Rattle.form.proofs.Places.{alpha-then}
 use Rattle.payload.specs.Answers.{u32Answer, idAnswer}
-use Rattle.payload.proofs.Laws.{gotOf, elseOf}
+use Rattle.payload.proofs.LetElse.{gotOf, elseOf}
 use Rattle.payload.proofs.colour.read_alpha.Statement.{statement}
 use Rattle.payload.proofs.colour.read_alpha.Tie as tie
 

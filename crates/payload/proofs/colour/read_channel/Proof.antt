@@ -4,7 +4,7 @@ use borrow.Author.Needs.{needs}
 use Rattle.form.specs.Readers.{andThen}
 use Rattle.form.proofs.Places.{channel-then}
 use Rattle.payload.specs.Answers.{u32Answer, idAnswer}
-use Rattle.payload.proofs.Laws.{gotOf, elseOf}
+use Rattle.payload.proofs.LetElse.{gotOf, elseOf}
 use Rattle.payload.proofs.colour.read_channel.Statement.{statement}
 use Rattle.payload.proofs.colour.read_channel.Tie as tie
 

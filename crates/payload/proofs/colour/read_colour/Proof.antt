@@ -5,7 +5,7 @@ use Rattle.form.specs.Readers.{andThen}
 use Rattle.form.proofs.Places.{rgb-then}
 use Rattle.payload.specs.Answers.{idAnswer}
 use Rattle.payload.specs.Colour.{channelAnswer}
-use Rattle.payload.proofs.Laws.{gotOf, elseOf}
+use Rattle.payload.proofs.LetElse.{gotOf, elseOf}
 use Rattle.payload.proofs.colour.read_colour.Statement.{statement}
 use Rattle.payload.proofs.colour.read_colour.Tie as tie
 

@@ -5,7 +5,7 @@ use lib.ListN.{length, drop, length-drop}
 use borrow.Author.Needs.{needs}
 use Rattle.form.proofs.Places.{num-there, took}
 use Rattle.payload.specs.Answers.{textAnswer, textOf}
-use Rattle.payload.proofs.Laws.{gotOf, elseOf}
+use Rattle.payload.proofs.LetElse.{gotOf, elseOf}
 use Rattle.payload.proofs.Spells.{spells, spells-not}
 use Rattle.payload.proofs.numbers.read_width.Statement.{statement}
 use Rattle.payload.proofs.numbers.read_width.Tie as tie

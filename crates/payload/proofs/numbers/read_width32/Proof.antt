@@ -5,7 +5,7 @@ use borrow.Author.Needs.{needs}
 use Rattle.form.proofs.LittleEndian.{within}
 use Rattle.form.proofs.Places.{num-lt}
 use Rattle.payload.specs.Answers.{u64Answer}
-use Rattle.payload.proofs.Laws.{gotOf, elseOf}
+use Rattle.payload.proofs.LetElse.{gotOf, elseOf}
 use Rattle.payload.proofs.numbers.read_width32.Statement.{statement}
 use Rattle.payload.proofs.numbers.read_width32.Tie as tie
 

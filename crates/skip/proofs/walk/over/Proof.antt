@@ -3,7 +3,7 @@ use native.Mathlib.Omega.{arith}
 use mathlib.Core.Path.{refl, sym, _∙_}
 use Rattle.form.proofs.SkipSteps.{passing-on}
 use Rattle.payload.specs.Answers.{textAnswer}
-use Rattle.payload.proofs.Laws.{gotOf, elseOf}
+use Rattle.payload.proofs.LetElse.{gotOf, elseOf}
 use Rattle.skip.proofs.Passing.{got, got-not}
 use Rattle.skip.proofs.Turns.{cut-short, deeper, out, higher, onward, over-at}
 use borrow.Author.Needs.{needs}

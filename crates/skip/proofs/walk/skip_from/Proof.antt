@@ -5,7 +5,7 @@ use mathlib.Core.Path.{_≡_, refl, _∙_}
 use lib.ListN.{length}
 use borrow.Author.Needs.{needs}
 use Rattle.payload.specs.Answers.{idAnswer}
-use Rattle.payload.proofs.Laws.{gotOf, elseOf}
+use Rattle.payload.proofs.LetElse.{gotOf, elseOf}
 use Rattle.skip.specs.Walks.{walkAfter}
 use Rattle.skip.proofs.Turns.{known, ends, goes-on}
 use Rattle.skip.proofs.walk.skip_from.Statement.{statement}

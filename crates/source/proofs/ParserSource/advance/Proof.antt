@@ -5,7 +5,7 @@ use native.Mathlib.Omega.{arith}
 use denote.Ref.{now}
 use borrow.Author.Needs.{needs}
 use Rattle.source.specs.declared.ParserSource.{ParserSource}
-use Rattle.source.specs.Window.{gives}
+use Rattle.source.specs.Window.{drawn}
 use Rattle.source.proofs.Cases.{advanced-bad, held, ordered, advanced-on, advanced-not}
 use Rattle.source.proofs.ParserSource.advance.Statement.{statement}
 use Rattle.source.proofs.ParserSource.advance.Tie as tie
@@ -33,7 +33,7 @@ returns-2 : tie.Need-returns-2
 returns-2 c =
     let a = c .before .before .before .before .before .before .before .before .before .args in
     let e = sym (c .before .before .before .before .before .check .ensures) ∙ c .before .before .before .enum-told .given .1 in
-    ap (λ (s : ParserSource). gives true s (now (a .buffer))) (c .past .ensures) ∙ sym (advanced-on (now (a .supply)) (now (a .schedule)) (a .self) (now (a .buffer)) e _ (c .before .if1 .taken))
+    ap (λ (s : ParserSource). drawn true s (now (a .buffer))) (c .past .ensures) ∙ sym (advanced-on (now (a .supply)) (now (a .schedule)) (a .self) (now (a .buffer)) e _ (c .before .if1 .taken))
 
 returns-3 : tie.Need-returns-3
 returns-3 c =

@@ -3,7 +3,7 @@ use mathlib.Core.Path.{refl, sym, _∙_}
 use denote.Ref.{now}
 use Rattle.source.specs.Binary.{expected}
 use Rattle.source.specs.Answers.{idAnswer, idStop}
-use Rattle.source.proofs.Laws.{gotOf, elseOf}
+use Rattle.source.proofs.Answered.{gotOf, elseOf}
 use Rattle.source.proofs.Through.{then-stop, expected-is, expected-not}
 use borrow.Author.Needs.{needs}
 use Rattle.source.proofs.ParserSource.expect.Statement.{statement}

@@ -4,7 +4,7 @@ use denote.Ref.{now}
 use borrow.Author.Needs.{needs}
 use Rattle.source.specs.Answers.{ensuredAnswer, triedAnswer}
 use Rattle.source.specs.declared.answers.Tried.{Tried}
-use Rattle.source.proofs.Laws.{gotOf, peeked-ready, peeked-stop}
+use Rattle.source.proofs.Answered.{gotOf, peeked-ready, peeked-stop}
 use Rattle.source.proofs.ParserSource.peek.Statement.{statement}
 use Rattle.source.proofs.ParserSource.peek.Tie as tie
 

@@ -3,10 +3,10 @@ use mathlib.Core.Path.{sym, ap, _∙_}
 use denote.Ref.{now}
 use mathlib.Core.Option.{some}
 use Prim.Native.Nat.{ℕ}
-use Rattle.source.specs.Window.{gives}
+use Rattle.source.specs.Window.{drawn}
 use Rattle.source.specs.Binary.{peekedId, mappedOption}
 use Rattle.source.specs.Answers.{triedAnswer}
-use Rattle.source.proofs.Laws.{gotOf}
+use Rattle.source.proofs.Answered.{gotOf}
 use Rattle.source.proofs.Through.{peeked-there, then-got, then-stop}
 use borrow.Author.Needs.{needs}
 use Rattle.source.proofs.ParserSource.peek_lexeme_id.Statement.{statement}
@@ -22,7 +22,7 @@ unfolding peekedId mappedOption
 returns c =
     let o = c .before .before .before .before .before .before .before .before .peek in
     let t = c .before .before .before .before .t .given in
-    ap (λ (i : ℕ). gives (some i) (t .0 .1 .0) (o .last .1 .1 .0)) (c .new .ensures ∙ c .before .u16-at .ensures)
+    ap (λ (i : ℕ). drawn (some i) (t .0 .1 .0) (o .last .1 .1 .0)) (c .new .ensures ∙ c .before .u16-at .ensures)
     ∙ sym (then-got _ _ _ _ (gotOf triedAnswer (o .ensures) (t .1)))
 
 returns-2 : tie.Need-returns-2

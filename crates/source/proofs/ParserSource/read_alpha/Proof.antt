@@ -3,7 +3,7 @@ use mathlib.Core.Path.{refl, sym}
 use denote.Ref.{now}
 use Rattle.source.specs.Binary.{withAlpha}
 use Rattle.source.specs.Answers.{u32Answer, u32Stop, ensuredAnswer, ensuredStop}
-use Rattle.source.proofs.Laws.{gotOf, elseOf}
+use Rattle.source.proofs.Answered.{gotOf, elseOf}
 use Rattle.source.proofs.Through.{then-stop, alpha-got, alpha-end-stop}
 use borrow.Author.Needs.{needs}
 use Rattle.source.proofs.ParserSource.read_alpha.Statement.{statement}

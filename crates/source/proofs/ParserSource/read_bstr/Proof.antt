@@ -4,7 +4,7 @@ use denote.Ref.{now}
 use Prim.Native.Nat.{ℕ}
 use Rattle.source.specs.Binary.{stringOf, string}
 use Rattle.source.specs.Answers.{ensuredAnswer, ensuredStop}
-use Rattle.source.proofs.Laws.{gotOf, elseOf}
+use Rattle.source.proofs.Answered.{gotOf, elseOf}
 use Rattle.source.proofs.Through.{ready-there, then-got, then-stop}
 use borrow.Author.Needs.{needs}
 use Rattle.source.proofs.ParserSource.read_bstr.Statement.{statement}

@@ -2,7 +2,7 @@
 use mathlib.Core.Path.{refl, sym, _∙_}
 use denote.Ref.{now}
 use Rattle.source.specs.Answers.{ensuredAnswer, ensuredStop}
-use Rattle.source.proofs.Laws.{gotOf, elseOf}
+use Rattle.source.proofs.Answered.{gotOf, elseOf}
 use Rattle.source.proofs.Through.{channel-got, channel-stop}
 use borrow.Author.Needs.{needs}
 use Rattle.source.proofs.ParserSource.read_channel.Statement.{statement}

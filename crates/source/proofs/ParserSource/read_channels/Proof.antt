@@ -3,7 +3,7 @@ use mathlib.Core.Path.{refl, sym, _∙_}
 use denote.Ref.{now}
 use Rattle.source.specs.Binary.{channels}
 use Rattle.source.specs.Answers.{u32Answer, u32Stop}
-use Rattle.source.proofs.Laws.{gotOf, elseOf}
+use Rattle.source.proofs.Answered.{gotOf, elseOf}
 use Rattle.source.proofs.Through.{then-stop, green-stop, blue-stop, blue-got}
 use borrow.Author.Needs.{needs}
 use Rattle.source.proofs.ParserSource.read_channels.Statement.{statement}

@@ -7,8 +7,8 @@ use Rattle.source.proofs.Cases.{one-fits, once-failed, once-read}
 use Rattle.source.proofs.ParserSource.read_more.Statement.{statement}
 use Rattle.source.proofs.ParserSource.read_more.Tie as tie
 
-landed-requires : tie.Need-landed-requires
-landed-requires c κs =
+filled-requires : tie.Need-filled-requires
+filled-requires c κs =
     let s = c .before .before .before .before .before .before .before .before .before .before .before .before in
     let a = s .args in
     let f = c .before .before .read-once in
@@ -21,7 +21,7 @@ returns c =
     let a = s .args in
     let d = c .before .before .before .before .before .before .before .before .slide in
     let f = c .before .before .before .before .read-once in
-    let l = c .before .landed in
+    let l = c .before .filled in
     once-failed (now (a .supply)) (now (a .schedule)) (a .self) (now (a .buffer)) (s .pre) (d .last .0) (f .last .0) (f .result) (l .result) (d .ensures) (f .ensures .1) (l .ensures) (f .ensures .0) (c .if1 .taken)
 
 returns-2 : tie.Need-returns-2
@@ -30,7 +30,7 @@ returns-2 c =
     let a = s .args in
     let d = c .before .before .before .before .before .before .before .before .slide in
     let f = c .before .before .before .before .read-once in
-    let l = c .before .landed in
+    let l = c .before .filled in
     once-read (now (a .supply)) (now (a .schedule)) (a .self) (now (a .buffer)) (s .pre) (d .last .0) (f .last .0) (f .result) (l .result) (d .ensures) (f .ensures .1) (l .ensures) (f .ensures .0) (c .if1 .left)
 
 pub read-more-spec : {M : Type 1} → statement M
@@ -40,7 +40,7 @@ read-more-spec =
     (λ c. search needs)
     (λ c κs. search needs)
     (λ c κs. search needs)
-    landed-requires
+    filled-requires
     (λ c. search needs)
     returns
     (λ c. search needs)

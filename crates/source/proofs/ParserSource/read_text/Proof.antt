@@ -4,11 +4,11 @@ use denote.Ref.{now}
 use Prim.Native.Nat.{_+_}
 use native.Mathlib.Omega.{arith}
 use Rattle.source.specs.declared.ParserSource.{ParserSource}
-use Rattle.source.specs.Window.{gives, textAt}
+use Rattle.source.specs.Window.{drawn, textAt}
 use Rattle.source.specs.Binary.{stringOf}
 use Rattle.source.specs.Answers.{ensuredAnswer}
 use Rattle.source.proofs.Cases.{ready}
-use Rattle.source.proofs.Laws.{gotOf}
+use Rattle.source.proofs.Answered.{gotOf}
 use Rattle.source.proofs.Through.{then-got, then-stop}
 use borrow.Author.Needs.{needs}
 use Rattle.source.proofs.ParserSource.read_text.Statement.{statement}
@@ -32,7 +32,7 @@ returns c =
     let a = c .before .before .before .before .before .before .before .before .before .before .before .before .args in
     let o = c .before .before .before .before .before .before .before .ensure-bytes in
     let e = c .before .before .before .e .given in
-    ap (λ (s : ParserSource). gives (textAt (e .0 .0 .start + 2) (a .len)) s (o .last .1 .1 .0)) (c .past .ensures)
+    ap (λ (s : ParserSource). drawn (textAt (e .0 .0 .start + 2) (a .len)) s (o .last .1 .1 .0)) (c .past .ensures)
     ∙ sym (then-got _ _ _ _ (gotOf ensuredAnswer (o .ensures) (e .1)))
 
 returns-2 : tie.Need-returns-2

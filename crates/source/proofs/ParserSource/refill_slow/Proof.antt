@@ -7,8 +7,8 @@ use Rattle.source.proofs.Cases.{fill-fits, topped-failed, topped-short,
 use Rattle.source.proofs.ParserSource.refill_slow.Statement.{statement}
 use Rattle.source.proofs.ParserSource.refill_slow.Tie as tie
 
-landed-requires : tie.Need-landed-requires
-landed-requires c κs =
+filled-requires : tie.Need-filled-requires
+filled-requires c κs =
     let s = c .before .before .before .before .before .before .before .before .before .before .before .before in
     let a = s .args in
     let f = c .before .before .fill-up in
@@ -21,7 +21,7 @@ returns c =
     let a = s .args in
     let d = c .before .before .before .before .before .before .before .before .slide in
     let f = c .before .before .before .before .fill-up in
-    let l = c .before .landed in
+    let l = c .before .filled in
     topped-failed (now (a .supply)) (now (a .schedule)) (a .self) (now (a .buffer)) (s .pre) (d .last .0) (f .last .0) (f .result) (l .result) (d .ensures) (f .ensures .1) (l .ensures) _ (f .ensures .0) (c .if1 .taken)
 
 returns-2 : tie.Need-returns-2
@@ -30,7 +30,7 @@ returns-2 c =
     let a = s .args in
     let d = c .before .before .before .before .before .before .before .before .before .before .slide in
     let f = c .before .before .before .before .before .before .fill-up in
-    let l = c .before .before .before .landed in
+    let l = c .before .before .before .filled in
     topped-short (now (a .supply)) (now (a .schedule)) (a .self) (now (a .buffer)) (s .pre) (d .last .0) (f .last .0) (f .result) (l .result) (d .ensures) (f .ensures .1) (l .ensures) _ (f .ensures .0) (c .before .before .if1 .left) (c .if2 .taken)
 
 returns-3 : tie.Need-returns-3
@@ -39,7 +39,7 @@ returns-3 c =
     let a = s .args in
     let d = c .before .before .before .before .before .before .before .before .before .before .slide in
     let f = c .before .before .before .before .before .before .fill-up in
-    let l = c .before .before .before .landed in
+    let l = c .before .before .before .filled in
     topped-ready (now (a .supply)) (now (a .schedule)) (a .self) (now (a .buffer)) (s .pre) (d .last .0) (f .last .0) (f .result) (l .result) (d .ensures) (f .ensures .1) (l .ensures) _ (f .ensures .0) (c .before .before .if1 .left) (c .if2 .left)
 
 pub refill-slow-spec : {M : Type 1} → statement M
@@ -49,7 +49,7 @@ refill-slow-spec =
     (λ c. search needs)
     (λ c κs. search needs)
     (λ c κs. search needs)
-    landed-requires
+    filled-requires
     (λ c. search needs)
     returns
     (λ c. search needs)

@@ -5,9 +5,9 @@ use denote.Ref.{now}
 use borrow.Author.Needs.{needs}
 use Rattle.source.specs.Answers.{ensuredAnswer}
 use Rattle.source.specs.declared.ParserSource.{ParserSource}
-use Rattle.source.specs.Window.{gives, textAt, taken}
+use Rattle.source.specs.Window.{drawn, textAt, taken}
 use Rattle.source.proofs.Cases.{ready}
-use Rattle.source.proofs.Laws.{gotOf}
+use Rattle.source.proofs.Answered.{gotOf}
 use Rattle.source.proofs.Through.{then-got, then-stop}
 use Rattle.source.proofs.ParserSource.take.Statement.{statement}
 use Rattle.source.proofs.ParserSource.take.Tie as tie
@@ -24,7 +24,7 @@ returns c =
     let a = c .before .before .before .before .before .before .before .before .before .before .before .args in
     let o = c .before .before .before .before .before .before .ensure-bytes in
     let e = c .before .before .e .given in
-    ap (λ (s : ParserSource). gives (textAt (e .0 .0 .start) (a .count)) s (o .last .1 .1 .0)) (c .past .ensures)
+    ap (λ (s : ParserSource). drawn (textAt (e .0 .0 .start) (a .count)) s (o .last .1 .1 .0)) (c .past .ensures)
     ∙ sym (then-got _ _ _ _ (gotOf ensuredAnswer (o .ensures) (e .1)))
 
 returns-2 : tie.Need-returns-2

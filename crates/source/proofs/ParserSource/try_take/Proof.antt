@@ -4,7 +4,7 @@ use denote.Ref.{now}
 use borrow.Author.Needs.{needs}
 use Rattle.source.specs.Answers.{takenAnswer, triedAnswer}
 use Rattle.source.specs.declared.answers.Tried.{Tried}
-use Rattle.source.proofs.Laws.{gotOf, tried-got, tried-stop}
+use Rattle.source.proofs.Answered.{gotOf, tried-got, tried-stop}
 use Rattle.source.proofs.ParserSource.try_take.Statement.{statement}
 use Rattle.source.proofs.ParserSource.try_take.Tie as tie
 

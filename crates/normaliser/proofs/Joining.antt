@@ -1,0 +1,78 @@
+-- A save in parts: what is left of it from a place on, and what stands before. Assumes nothing.
+use Prim.Native.Nat.{ℕ, _+_, _-_, _≤_}
+use native.Mathlib.Omega.{arith}
+use mathlib.Core.Path.{_≡_, refl, sym, ap, _∙_}
+use mathlib.Core.Bool.{false}
+use mathlib.Core.Option.{Option, none, some}
+use mathlib.Core.List.{List, [], _++_, append-assoc}
+use lib.ListN.{length, take, drop, length-append}
+use lib.Seq.{take-add, drop-drop}
+use Rattle.form.specs.Values.{Value}
+use Rattle.form.specs.Refusals.{Refusal}
+use Rattle.form.specs.Spelling.{spell, wide}
+use Rattle.form.specs.Saves.{Walk, then, walk, values, tokens, spellAll, normal}
+use Rattle.form.specs.Writing.{Output, written, unwritten, firstRefusal, unless}
+use Rattle.form.proofs.Runs.{part-length}
+use Rattle.form.proofs.Walking.{from, from-end}
+use Rattle.normaliser.specs.Stretches.{outputOf, rest, before, between, Spells}
+use Rattle.normaliser.specs.Passes.{unbounded}
+
+-- ---- what is left
+
+pub rest-from : (s : List ℕ) (p : ℕ) → rest s p ≡ outputOf (from s p)
+unfolding rest from
+rest-from s p = refl
+
+pub rest-start : (s : List ℕ) → rest s 0 ≡ unbounded s
+unfolding rest outputOf unbounded walk normal tokens
+rest-start s = refl
+
+pub rest-end : (s : List ℕ) (p : ℕ) → length s ≤ p → rest s p ≡ written []
+unfolding outputOf firstRefusal values spellAll unless
+rest-end s p h = rest-from s p ∙ ap outputOf (from-end s p h)
+
+-- a token that can be written stands before what is left after it
+pub output-then : (p n : ℕ) (v : Value) (w : Walk) → wide v ≡ false → outputOf (then p n v w) ≡ before (spell v) (outputOf w)
+unfolding outputOf firstRefusal values spellAll unless before
+output-then p n v w h = rw h (go (firstRefusal w))
+  where
+    go : (o : Option Refusal) → unless o (written (spell v ++ spellAll (values w))) ≡ before (spell v) (unless o (written (spellAll (values w))))
+    go none = refl
+    go (some r) = refl
+
+-- ---- what stands before
+
+pub before-before : (a b : List ℕ) (o : Output) → before a (before b o) ≡ before (a ++ b) o
+unfolding before
+before-before a b (written cs) = ap written (sym (append-assoc a b cs))
+before-before a b (unwritten r) = refl
+
+pub before-nil : (o : Output) → before [] o ≡ o
+unfolding before
+before-nil (written cs) = refl
+before-nil (unwritten r) = refl
+
+pub spells-none : (s : List ℕ) (p : ℕ) → p ≤ length s → Spells s p p []
+spells-none s p h = record { on = omega arith; there = h; short = omega arith; is = sym (before-nil (rest s p)) }
+
+pub spells-then : {s a b : List ℕ} {p q r : ℕ} → Spells s p q a → Spells s q r b → Spells s p r (a ++ b)
+spells-then {s} {a} {b} {p} {q} {r} x y = record {
+  on = omega (arith, x .on, y .on);
+  there = y .there;
+  short = omega (arith, x .on, y .on, x .short, y .short, length-append a b);
+  is = x .is ∙ ap (before a) (y .is) ∙ before-before a b (rest s r);
+}
+
+-- ---- the save's own bytes
+
+pub between-length : (s : List ℕ) (p q : ℕ) → q ≤ length s → length (between s p q) ≡ q - p
+between-length s p q h = part-length s p (q - p) (omega arith)
+
+pub between-then : (s : List ℕ) (p q r : ℕ) → p ≤ q → q ≤ r → between s p q ++ between s q r ≡ between s p r
+between-then s p q r h l =
+    let e : p + (q - p) ≡ q = omega arith in
+    let f : q - p + (r - q) ≡ r - p = omega arith in
+    sym (ap (λ (n : ℕ). take n (drop p s)) (sym f) ∙ take-add (q - p) (r - q) (drop p s) ∙ rw (drop-drop (q - p) p s, e))
+
+pub between-none : (s : List ℕ) (p : ℕ) → between s p p ≡ []
+between-none s p = let e : p - p ≡ 0 = omega arith in rw e
