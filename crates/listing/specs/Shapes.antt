@@ -1,4 +1,4 @@
--- No public promise goes through this file. The parts of a token's line, as the code has them.
+-- No public promise goes through this file. A token's line as the code has it: the kind's name, and the shape of the value.
 use Prim.Native.Nat.{ℕ}
 use Prim.Native.String.{String}
 use mathlib.Core.List.{List, [], _∷_, _++_}
@@ -49,6 +49,6 @@ shownAs (T.I64 z) = named "i64" (Signed z)
 shownAs (T.Lookup n) = named "lookup" (Number n)
 shownAs (T.Id i) = named "id" (Number i)
 
--- a line of such parts, at a position
+-- the line of a token so shown, at a position
 unfoldable pub lineOf : List ℕ → ℕ → Shown → List ℕ
 lineOf s p x = line (decimal p) (take (x .len) (x .name) ∷ shapeWords s (x .shape))

@@ -1,4 +1,4 @@
--- A save in parts: what is left of it from a place on, and what stands before. Assumes nothing.
+-- Stretches of a save: what is left of it from a place on, and what stands before. Assumes nothing.
 use Prim.Native.Nat.{ℕ, _+_, _-_, _≤_}
 use native.Mathlib.Omega.{arith}
 use mathlib.Core.Path.{_≡_, refl, sym, ap, _∙_}

@@ -1,4 +1,4 @@
--- No public promise goes through this file. A save in parts: what is left of it from a place on, and what the parts of the code do with it.
+-- No public promise goes through this file. Stretches of a save: what is left of it from a place on, and what the code's steps do with it.
 use Prim.Native.Nat.{ℕ, _+_, _-_, _*_, _≤_, _<_}
 use mathlib.Core.Path.{_≡_}
 use mathlib.Core.List.{List, _++_}
@@ -36,7 +36,7 @@ pub record Spells (s : List ℕ) (p q : ℕ) (bs : List ℕ) : Type 0 where
   pub short : length bs ≤ 5 * (q - p)
   pub is : rest s p ≡ before bs (rest s q)
 
--- ---- what the code's parts do
+-- ---- what the code's steps do
 
 -- r is the place after so many bytes, where they fit
 pub record Placed (need room r : ℕ) : Type 0 where

@@ -1,4 +1,4 @@
--- The parts of each token: writing them is writing the token. Assumes nothing.
+-- The layout of each token: writing it is writing the token. Assumes nothing.
 use Prim.Native.Nat.{ℕ, _+_}
 use native.Mathlib.Omega.{arith}
 use mathlib.Core.Path.{_≡_, refl}

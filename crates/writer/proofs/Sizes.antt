@@ -1,4 +1,4 @@
--- How many bytes the parts of a token take. Assumes nothing.
+-- How many bytes a layout takes. Assumes nothing.
 use Prim.Native.Nat.{ℕ, _+_}
 use native.Mathlib.Omega.{arith}
 use mathlib.Core.Path.{_≡_, refl, _∙_}

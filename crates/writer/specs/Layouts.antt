@@ -1,5 +1,4 @@
--- No public promise goes through this file. The parts that a token is split into: what they spell, and what writing them gives. The code's way
--- to `writeToken`.
+-- No public promise goes through this file. The layout of a token, what it spells, and what writing it gives: the code's way to `writeToken`.
 use Prim.Native.Nat.{ℕ, _^_}
 use mathlib.Core.Path.{_≡_}
 use mathlib.Core.Bool.{Bool, true, not}
@@ -62,10 +61,10 @@ writableBy (Lookup n) = ltb n (2 ^ 24)
 writableBy (Rgb c) = true
 writableBy (Id i) = not (reserved i)
 
--- parts into an output with so much room
+-- a layout into an output with so much room
 unfoldable pub writeBy : ℕ → List ℕ → Layout → Output
 writeBy room s p = unless (misplacedBy s p) (pick (writableBy p) (fitted room (spelledBy s p)) (unwritten (NotEncodable 0)))
 
--- a token is split so that writing the parts is writing the token
+-- a token has such a layout that writing it is writing the token
 abbrev pub LaysOut : Token → Layout → Type 0
 LaysOut t p = (room : ℕ) (s : List ℕ) → writeBy room s p ≡ writeToken room s t

@@ -1,4 +1,4 @@
-// A token as the parts of its spelling.
+// The layout of a token: what its spelling is put together from.
 ghost use Rattle.writer.specs.Layouts.{LaysOut};
 use lexeme::LexemeId;
 use payload::Rgb;

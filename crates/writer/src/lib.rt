@@ -50,7 +50,7 @@ fn judge_text(bytes: &[u8], id: LexemeId, t: Text, room: usize) -> Wrote
     }
 }
 
-// What a write of the parts answers.
+// What a write of a token so laid out answers.
 fn judge(bytes: &[u8], p: Layout, room: usize) -> Wrote
     ensures { λ r. ⌜ wroteOutcome r ≡ outcome (writeBy room (now (bytes .entry)) p) ⌝ }
 {

@@ -108,7 +108,7 @@ fn id_colour(out: &mut [u8], at: usize, c: Rgb) -> usize
     channels(out, j, c)
 }
 
-// The parts of a token, whose text stands in bytes.
+// A token by its layout; its text stands in bytes.
 pub(crate) fn layout(out: &mut [u8], at: usize, bytes: &[u8], p: Layout) -> usize
     requires { ⌜ at + length (spelledBy (now bytes) p) ≤ length (now out) ⌝ }
     ensures { λ r. ⌜ Put (now (out .entry)) at (spelledBy (now (bytes .entry)) p) (now (out .exit)) r ⌝ }
