@@ -12,7 +12,7 @@ use borrow.Author.Tests.{eqb-true, eq-eqb, le-leb}
 use Rattle.form.specs.Numbers.{pick, le}
 use Rattle.form.specs.Values.{Value, Rgb}
 use Rattle.form.specs.Ids.{OPEN, CLOSE, CHANNEL}
-use Rattle.form.specs.Refusals.{Refusal, refusalNumber}
+use Rattle.form.specs.Refusals.{Refusal, isEof}
 use Rattle.form.specs.Readers as R
 use Rattle.form.specs.Readers.{Reader, found, _followed-by_, _giving_, give}
 use Rattle.form.specs.Reading as F
@@ -105,7 +105,7 @@ module _ (supply schedule : List ℕ) where
             same = ensured-ahead supply schedule s buffer 2 q;
             there = ensured-position supply schedule s buffer 2 q;
           })
-      by (halted r v m) q h = stopped (eqb (refusalNumber r) 1 && leb (v .end) (v .start)) r v m h
+      by (halted r v m) q h = stopped (isEof r && leb (v .end) (v .start)) r v m h
 
   -- a length n, and so many bytes
   string-is : (n : ℕ) (l : List ℕ) → n ≡ le (take 2 l) → 2 + n ≤ length l → F.string l ≡ found (take n (drop 2 l)) (2 + n)
