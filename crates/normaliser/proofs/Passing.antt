@@ -20,7 +20,7 @@ use Rattle.form.specs.Spelling.{tag, body, spell}
 use Rattle.form.specs.Saves.{LIMIT, walk, normal}
 use Rattle.form.specs.Writing.{written, unwritten, Outcome, wrote, outcome, leaves, Follows, fitted, firstRefusal, unless}
 use Rattle.form.proofs.Never.{never}
-use Rattle.form.proofs.Puts.{put-then, put-none as nothing, put-front}
+use Rattle.form.proofs.Puts.{put-then, put-none, put-front}
 use Rattle.writer.specs.Layouts.{idNumber}
 use Rattle.normaliser.specs.declared.Normalised.{Normalised}
 use Rattle.normaliser.specs.declared.Normalised.the-variants.{Written}
@@ -56,9 +56,9 @@ module _ (d : List ℕ) (at : ℕ) (bs : List ℕ) (l : at ≤ length d) where
       (rw (part-to-end d at, e, append-nil, drop-drop (length bs) at d)
       (sym (sets-eq bs d at h ∙ append-assoc (take at d) bs (drop (at + length bs) d))))
 
-  put-none : length d < at + length bs → back d at (put d at bs) ≡ d
+  put-lacking : length d < at + length bs → back d at (put d at bs) ≡ d
   unfolding fitted leaves
-  put-none h = rw (lt-leb (length bs) (length (part d at)) (omega (arith, size))) (put-same at (length d - at) d)
+  put-lacking h = rw (lt-leb (length bs) (length (part d at)) (omega (arith, size))) (put-same at (length d - at) d)
 
 -- at the place after so many bytes
 pub appends : {d bs ys : List ℕ} {need at r : ℕ} → length d ≤ MAX → Placed need (length d) at → ys ≡ put d at bs → r ≡ need + length bs
@@ -78,13 +78,13 @@ appends {d} {bs} {ys} {need} {at} {r} m p o e = go (leb (at + length bs) (length
         let l = leb-false (at + length bs) (length d) f in
         record {
           count = e;
-          same = ap (λ (ys : List ℕ). length (back d at ys)) o ∙ ap length (put-none d at bs (p .inside) l);
+          same = ap (λ (ys : List ℕ). length (back d at ys)) o ∙ ap length (put-lacking d at bs (p .inside) l);
           puts = λ h. absurd (omega (arith, l, p .fits (omega arith)));
         }
 
 -- nothing more
 pub appends-none : (d : List ℕ) (need : ℕ) → length d ≤ MAX → Appends d need [] d need
-appends-none d need m = record { count = omega arith; same = refl; puts = λ h. nothing d need (omega arith) }
+appends-none d need m = record { count = omega arith; same = refl; puts = λ h. put-none d need (omega arith) }
 
 -- bytes, and then others
 appends-then : {d d₁ d₂ a b : List ℕ} {need r₁ r₂ : ℕ} → Appends d need a d₁ r₁ → Appends d₁ r₁ b d₂ r₂ → Appends d need (a ++ b) d₂ r₂
