@@ -7,7 +7,7 @@ use libc::STDERR_FILENO;
 use libc::STDOUT_FILENO;
 
 // How often an interrupted call is made at most: more often than a program lives for, so that the loop ends.
-const AGAIN: u64 = 18446744073709551615;
+const AGAIN: u64 = u64::MAX;
 
 // How many bytes came, at the front of the buffer.
 pub enum Input {
