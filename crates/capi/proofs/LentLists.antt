@@ -1,4 +1,4 @@
--- Laws of the replies. Assumes nothing.
+-- A reply's words in the lent list, or a list that is too short. Assumes nothing.
 use Prim.Native.Nat.{ℕ, _+_, _≤_, _<_}
 use native.Mathlib.Omega.{arith}
 use mathlib.Core.Path.{_≡_}
@@ -7,8 +7,6 @@ use lib.ListN.{length}
 use lib.Seq.{sets, sets-eq}
 use borrow.Author.Tests.{le-leb, lt-leb}
 use Rattle.capi.specs.Replies.{SHORT_ANSWER, Reply, returned, into}
-
--- ---- the lent list
 
 module _ (l : List ℕ) (r : Reply) where
   pub too-short : length l < 8 → returned SHORT_ANSWER l ≡ into l r

@@ -4,7 +4,7 @@ ghost use mir.Syntax.{w64};
 ghost use mir.Val.{ofZ};
 use payload::bits::of_i64;
 
-// Two's complement.
+// The 64 bits of a signed number of 32, in two's complement.
 pub(crate) fn widened_i32(x: i32) -> u64
     ensures { λ r. ⌜ r ≡ ofZ w64 x ⌝ }
 {

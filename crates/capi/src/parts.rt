@@ -12,7 +12,7 @@ use payload::Text;
 use split::Split;
 use token::TextAnswer;
 
-// The first bytes, so many, and how many follow; none where there are fewer.
+// The part that follows the first bytes, so many; none where there are fewer.
 #[no_mangle]
 pub extern "C" fn stivlaheim_get_split(bytes: &[u8], count: usize, answer: &mut [u64]) -> u32
     ensures { λ r. ⌜ returned r (now (answer .exit)) ≡ into (now (answer .entry)) (splitReply (now (bytes .entry)) (splitAt (now (bytes .entry)) count)) ⌝ }

@@ -21,7 +21,7 @@ stepOf Slow = F.slow
 abbrev pub stepped : FastToken → F.Stepped
 stepped r = record { step = stepOf (r .step); held = r .held }
 
--- ---- what the parts answer
+-- ---- what the code's functions answer
 
 abbrev pub slowly : List ℕ → FastToken
 slowly held = record { step = Slow; held = held }

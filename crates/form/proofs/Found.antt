@@ -60,7 +60,7 @@ pick-all : (P : Value → ℕ → Type 0) (b : Bool) (f g : Reader Value) (s : L
 pick-all P true f g s x y = x
 pick-all P false f g s x y = y
 
--- ---- the parts
+-- ---- bytes, numbers and texts
 
 -- the next n bytes
 pub record Next (n : ℕ) (s t : List ℕ) (k : ℕ) : Type 0 where

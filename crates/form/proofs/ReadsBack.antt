@@ -24,7 +24,7 @@ use Rattle.form.proofs.LittleEndian.{length-bytes, le-bytes}
 use Rattle.form.proofs.Lookups.{plain-after, open-is, close-is, channel-is}
 use Rattle.form.proofs.Tags.{unreserved}
 
--- ---- the parts
+-- ---- bytes, numbers and texts
 
 next-back : (t s : List ℕ) (n : ℕ) → length t ≡ n → next n (t ++ s) ≡ found t n
 unfolding next

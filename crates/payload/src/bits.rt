@@ -11,7 +11,7 @@ pub fn of_bool(x: bool) -> u64
     if x { 1 } else { 0 }
 }
 
-// Signed numbers: two's complement.
+// The 32 bits of a signed number, in two's complement.
 pub fn of_i32(x: i32) -> u64
     ensures { λ r. ⌜ r ≡ ofZ w32 x ⌝ }
 {
@@ -23,7 +23,7 @@ pub fn of_i32(x: i32) -> u64
     }
 }
 
-// The same of 64 bits.
+// The 64 bits of a signed number, in two's complement.
 pub fn of_i64(x: i64) -> u64
     ensures { λ r. ⌜ r ≡ ofZ w64 x ⌝ }
 {

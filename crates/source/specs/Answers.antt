@@ -35,7 +35,7 @@ use Rattle.source.specs.declared.answers.TakenRgb.{TakenRgb}
 use Rattle.source.specs.declared.answers.TakenRgb.the-variants as C
 use Rattle.source.specs.Window.{Drawn, drawn, halted}
 
--- the refusal that it is
+-- the refusal that an error stands for
 abbrev pub refusalOf : ParserError → F.Refusal
 refusalOf (Eof p) = F.Eof p
 refusalOf (InvalidRgb p) = F.InvalidRgb p

@@ -30,7 +30,7 @@ idNumber i w n = leBytes 2 i ++ leBytes w n
 abbrev pub idText : ℕ → List ℕ → List ℕ
 idText i t = leBytes 2 i ++ (leBytes 2 (length t) ++ t)
 
--- a colour's end, its channels and its end, and all of it
+-- a colour's end; its channels and its end; and all of it
 abbrev pub colourEnd : Alpha → List ℕ
 colourEnd a = spelledAlpha (alphaOf a) ++ leBytes 2 CLOSE
 

@@ -1,4 +1,5 @@
--- `text::put_all` meets its contract. The invariant: what is left of the bytes, written to the output as it is, gives what the promise says. Assumes nothing.
+-- `text::put_all` meets its contract. The invariant: what is left of the bytes, written to the output as it is, gives what the promise says.
+-- Assumes nothing.
 use borrow.Author.Needs.{needs}
 use Prim.Native.Nat.{_-_, _≤_}
 use native.Mathlib.Omega.{arith}

@@ -1,5 +1,4 @@
--- `lexeme::LexemeId::is_id` meets its contract.
--- Assumes nothing.
+-- `lexeme::LexemeId::is_id` meets its contract. Assumes nothing.
 use mathlib.Core.Path.{_≡_, refl, sym, ap, _∙_}
 use mathlib.Core.List.{[], _∷_}
 use Rattle.form.proofs.Lookups.{arm}
