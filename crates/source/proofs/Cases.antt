@@ -16,7 +16,7 @@ use Rattle.source.specs.declared.Check.{Check}
 use Rattle.source.specs.declared.Check.the-variants.{Fine, Bad}
 use Rattle.source.specs.declared.reads.Reads.{Reads}
 use Rattle.source.specs.Reads.{one, fill}
-use Rattle.source.specs.Window.{unread, unreadIn, heldIn, checked, checkedIn, past, filled, filledIn, Drawn, drawn, halted, Draw, fitting, ifFine, ifGiven, toppedBy, topped, ensured, onceBy, once, refilled, advanced, window, windowLen, windowOf}
+use Rattle.source.specs.Window.{unread, unreadIn, heldIn, checked, checkedIn, readPast, filled, filledIn, Drawn, drawn, halted, Draw, fitting, ifFine, ifGiven, toppedBy, topped, ensured, onceBy, once, refilled, advanced, window, windowLen, windowOf}
 use Rattle.source.specs.Good.{Good}
 use Rattle.source.proofs.Stores.{sets-then}
 use Rattle.source.proofs.Filling.{Within, one-within, fill-within}
@@ -88,7 +88,7 @@ module _ (supply schedule : List ℕ) (s : ParserSource) (buffer : List ℕ) whe
         unfolding ensured
         ensured-go t o = fit _ ∙ rw (lt-leb _ _ h, t, le-leb _ _ o)
 
-      pub advanced-on : n ≤ unread s → advanced supply schedule n s buffer ≡ drawn true (past n s) buffer
+      pub advanced-on : n ≤ unread s → advanced supply schedule n s buffer ≡ drawn true (readPast n s) buffer
       unfolding advanced
       advanced-on h = fit _ ∙ rw (le-leb _ _ h)
 
@@ -233,7 +233,7 @@ filled-good s held supply schedule r g w = record {
 }
 
 -- and so does the state after unread bytes
-pub past-good : (s : ParserSource) (held supply schedule n : ℕ) → Good s held supply schedule → n ≤ unread s → Good (past n s) held supply schedule
+pub past-good : (s : ParserSource) (held supply schedule n : ℕ) → Good s held supply schedule → n ≤ unread s → Good (readPast n s) held supply schedule
 past-good s held supply schedule n g h = record {
   ordered = omega (arith, g);
   within = g .within;

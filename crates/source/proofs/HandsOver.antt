@@ -10,7 +10,7 @@ use Rattle.form.proofs.Runs.{part-length}
 use Rattle.payload.specs.declared.answers.Text.{Text}
 use Rattle.payload.proofs.Texts.{within}
 use Rattle.source.specs.declared.ParserSource.{ParserSource}
-use Rattle.source.specs.Window.{unread, past, Drawn, drawn, halted, drawnThen, _then_, textAt, heldIn, textIn, window, ensured, taken}
+use Rattle.source.specs.Window.{unread, readPast, Drawn, drawn, halted, drawnThen, _then_, textAt, heldIn, textIn, window, ensured, taken}
 use Rattle.source.specs.Binary.{spelledAt, number}
 use Rattle.source.specs.Runs.{ahead}
 use Rattle.source.proofs.Cases.{held, ensured-by, ready}
@@ -61,11 +61,11 @@ module _ (supply schedule : List ℕ) (s : ParserSource) (buffer : List ℕ) (n 
   unfolding taken _then_ drawnThen
   taken-bytes {t} {u} {b} e = by (ensured supply schedule n s buffer) refl e
     where
-      by : (x : Drawn (Unit {0})) → ensured supply schedule n s buffer ≡ x → drawnThen x (λ _ v m. drawn (textAt (v .start) n) (past n v) m) ≡ drawn t u b
+      by : (x : Drawn (Unit {0})) → ensured supply schedule n s buffer ≡ x → drawnThen x (λ _ v m. drawn (textAt (v .start) n) (readPast n v) m) ≡ drawn t u b
           → textIn supply t u b ≡ take n (ahead supply s buffer)
       by (drawn a v m) q h =
           let z : textAt (v .start) n ≡ t = cc in
-          let y : past n v ≡ u = cc in
+          let y : readPast n v ≡ u = cc in
           let x : m ≡ b = cc in
           let w = ready supply schedule s buffer n q in
           rw (← z, ← y, ← x, within (heldIn supply v m) (textAt (v .start) n) (omega (arith, w .good, w .there))) (ensured-front q)
@@ -77,9 +77,9 @@ module _ (supply schedule : List ℕ) (s : ParserSource) (buffer : List ℕ) (n 
   number-bytes {i} {u} {b} e = by (ensured supply schedule n s buffer) refl e
     where
       by : (x : Drawn (Unit {0})) → ensured supply schedule n s buffer ≡ x
-          → drawnThen (drawnThen x (λ _ v m. drawn (textAt (v .start) n) (past n v) m)) (λ t v m. drawn (spelledAt supply n v (t .start) m) v m) ≡ drawn i u b
+          → drawnThen (drawnThen x (λ _ v m. drawn (textAt (v .start) n) (readPast n v) m)) (λ t v m. drawn (spelledAt supply n v (t .start) m) v m) ≡ drawn i u b
           → i ≡ le (take n (ahead supply s buffer))
       by (drawn a v m) q h =
-          let z : spelledAt supply n (past n v) (v .start) m ≡ i = cc in
+          let z : spelledAt supply n (readPast n v) (v .start) m ≡ i = cc in
           sym z ∙ ap le (ensured-front q)
       by (halted r v m) q h = cc

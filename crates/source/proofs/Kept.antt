@@ -17,7 +17,7 @@ use Rattle.form.proofs.Runs.{part-length}
 use Rattle.payload.specs.declared.answers.Text.{Text}
 use Rattle.source.specs.declared.ParserSource.{ParserSource}
 use Rattle.source.specs.declared.reads.Reads.{Reads}
-use Rattle.source.specs.Window.{unread, unreadIn, past, filled, Drawn, drawn, halted, Draw, drawnThen, _then_, attempted, textAt, heldIn, window, filledIn, ensured, refilled, advanced, windowLen, taken, tried, peeked}
+use Rattle.source.specs.Window.{unread, unreadIn, readPast, filled, Drawn, drawn, halted, Draw, drawnThen, _then_, attempted, textAt, heldIn, window, filledIn, ensured, refilled, advanced, windowLen, taken, tried, peeked}
 use Rattle.source.specs.Good.{Good}
 use Rattle.source.specs.Binary.{invalid, number, id, peekedId, stringOf, string, expected, channel, withAlpha, endedBy, ending, channels, colour}
 use Rattle.source.specs.Runs.{ahead}
@@ -66,7 +66,7 @@ module _ (supply schedule : List ℕ) where
       }
 
   -- n unread bytes are passed
-  pub passing : (n : ℕ) {s : ParserSource} {buffer : List ℕ} → Sound s buffer → n ≤ unread s → Kept s buffer (past n s) buffer
+  pub passing : (n : ℕ) {s : ParserSource} {buffer : List ℕ} → Sound s buffer → n ≤ unread s → Kept s buffer (readPast n s) buffer
   passing n {s} {buffer} g h =
       let H = heldIn supply s buffer in
       let m = s .end - (s .start + n) in
@@ -75,14 +75,14 @@ module _ (supply schedule : List ℕ) where
       let w : window supply s buffer ≡ take n (drop (s .start) H) ++ take m (drop (s .start + n) H) =
       ap (λ (k : ℕ). take k (drop (s .start) H)) e ∙ take-add n m (drop (s .start) H)
       ∙ ap (λ (r : List ℕ). take n (drop (s .start) H) ++ take m r) (drop-drop n (s .start) H) in
-      let a : ahead supply s buffer ≡ take n (drop (s .start) H) ++ ahead supply (past n s) buffer =
+      let a : ahead supply s buffer ≡ take n (drop (s .start) H) ++ ahead supply (readPast n s) buffer =
       ap (λ (r : List ℕ). r ++ drop (s .supply) supply) w ∙ append-assoc (take n (drop (s .start) H)) (take m (drop (s .start + n) H)) (drop (s .supply) supply) in
       let k : s .position + n - s .position ≡ n = omega arith in
       record {
         good = past-good s (length H) (length supply) (length schedule) n g h;
         on = omega arith;
-        same = ap (λ (i : ℕ). drop i (ahead supply s buffer)) k ∙ ap (drop n) a ∙ drop-at (take n (drop (s .start) H)) (ahead supply (past n s) buffer) n l;
-        total = omega (arith, ap length a, length-append (take n (drop (s .start) H)) (ahead supply (past n s) buffer), l);
+        same = ap (λ (i : ℕ). drop i (ahead supply s buffer)) k ∙ ap (drop n) a ∙ drop-at (take n (drop (s .start) H)) (ahead supply (readPast n s) buffer) n l;
+        total = omega (arith, ap length a, length-append (take n (drop (s .start) H)) (ahead supply (readPast n s) buffer), l);
       }
 
   -- the unread bytes are moved to the front, and reads come behind them
@@ -163,7 +163,7 @@ module _ (supply schedule : List ℕ) where
   unfolding advanced
   advanced-keeps n s buffer g = by-check supply schedule s buffer (Keeps s buffer) _ (λ p. unmoved s buffer g) (λ e. by (leb n (unread s)) refl)
     where
-      by : (p : Bool) → leb n (unread s) ≡ p → Keeps s buffer (pick p (drawn true (past n s) buffer) (drawn false s buffer))
+      by : (p : Bool) → leb n (unread s) ≡ p → Keeps s buffer (pick p (drawn true (readPast n s) buffer) (drawn false s buffer))
       by true e = passing n g (leb-true _ _ e)
       by false e = unmoved s buffer g
 
@@ -172,11 +172,11 @@ module _ (supply schedule : List ℕ) where
   window-len-keeps s buffer g = by-check supply schedule s buffer (Keeps s buffer) _ (λ p. unmoved s buffer g) (λ e. unmoved s buffer g)
 
   -- n bytes are ensured and passed
-  reading : (n : ℕ) (h : ParserSource → Text) → Keeping (ensured supply schedule n then (λ _ s buffer. drawn (h s) (past n s) buffer))
+  reading : (n : ℕ) (h : ParserSource → Text) → Keeping (ensured supply schedule n then (λ _ s buffer. drawn (h s) (readPast n s) buffer))
   unfolding _then_ drawnThen
   reading n h s buffer g = by (ensured supply schedule n s buffer) refl (ensured-keeps n s buffer g)
     where
-      by : (x : Drawn (Unit {0})) → ensured supply schedule n s buffer ≡ x → Keeps s buffer x → Keeps s buffer (drawnThen x (λ _ t b. drawn (h t) (past n t) b))
+      by : (x : Drawn (Unit {0})) → ensured supply schedule n s buffer ≡ x → Keeps s buffer x → Keeps s buffer (drawnThen x (λ _ t b. drawn (h t) (readPast n t) b))
       by (drawn a t b) e k = let w = ready supply schedule s buffer n e in further k (passing n (w .good) (w .there))
       by (halted r t b) e k = k
 

@@ -20,7 +20,7 @@ use Rattle.form.proofs.Never.{never}
 use Rattle.payload.specs.declared.answers.Text.{Text}
 use Rattle.payload.proofs.Texts.{within}
 use Rattle.source.specs.declared.ParserSource.{ParserSource}
-use Rattle.source.specs.Window.{unread, past, Drawn, drawn, halted, Draw, drawnThen, _then_, attempted, textAt, heldIn, textIn, ensured, taken, peeked}
+use Rattle.source.specs.Window.{unread, readPast, Drawn, drawn, halted, Draw, drawnThen, _then_, attempted, textAt, heldIn, textIn, ensured, taken, peeked}
 use Rattle.source.specs.Binary.{spelledAt, invalid, mappedOption, number, id, peekedId, stringOf, string, expected, channel, withAlpha, endedBy, ending, channels, colour}
 use Rattle.source.specs.Runs.{ahead}
 use Rattle.source.proofs.Cases.{ready}
@@ -37,14 +37,14 @@ module _ (supply schedule : List ℕ) where
   -- ---- numbers and texts
 
   -- what is to come after n unread bytes
-  past-ahead : (n : ℕ) (t : ParserSource) (b : List ℕ) → Sound supply schedule t b → n ≤ unread t → drop n (ahead supply t b) ≡ ahead supply (past n t) b
+  past-ahead : (n : ℕ) (t : ParserSource) (b : List ℕ) → Sound supply schedule t b → n ≤ unread t → drop n (ahead supply t b) ≡ ahead supply (readPast n t) b
   past-ahead n t b g h =
       let d : t .position + n - t .position ≡ n = omega arith in
       rw d at (passing supply schedule n {s = t} {buffer = b} g h .same)
 
   -- n bytes are ensured and passed
   passes : (n : ℕ) {s t : ParserSource} {buffer b : List ℕ} {A : Type 0} (r : Reader A) (a : A) → ensured supply schedule n s buffer ≡ drawn tt t b
-      → (n ≤ length (ahead supply s buffer) → r (ahead supply s buffer) ≡ found a n) → Finds r a n s buffer (past n t) b
+      → (n ≤ length (ahead supply s buffer) → r (ahead supply s buffer) ≡ found a n) → Finds r a n s buffer (readPast n t) b
   passes n {s} {t} {buffer} {b} r a e f =
       let w = ready supply schedule s buffer n e in
       let same = ensured-ahead supply schedule s buffer n e in
@@ -68,10 +68,10 @@ module _ (supply schedule : List ℕ) where
   number-finds n {s} {u} {buffer} {b} {i} e = by (ensured supply schedule n s buffer) refl e
     where
       by : (x : Drawn (Unit {0})) → ensured supply schedule n s buffer ≡ x
-          → drawnThen (drawnThen x (λ _ v m. drawn (textAt (v .start) n) (past n v) m)) (λ t v m. drawn (spelledAt supply n v (t .start) m) v m) ≡ drawn i u b
+          → drawnThen (drawnThen x (λ _ v m. drawn (textAt (v .start) n) (readPast n v) m)) (λ t v m. drawn (spelledAt supply n v (t .start) m) v m) ≡ drawn i u b
           → Finds (F.num n) i n s buffer u b
       by (drawn a v m) q h =
-          let y : past n v ≡ u = cc in
+          let y : readPast n v ≡ u = cc in
           let x : m ≡ b = cc in
           rw (← y, ← x) (passes n (F.num n) i q (λ l. num-is n _ l ∙ ap (λ (j : ℕ). found j n) (sym (number-bytes supply schedule s buffer n e))))
       by (halted r v m) q h = never (cc)
@@ -116,18 +116,18 @@ module _ (supply schedule : List ℕ) where
   text-part : (n : ℕ) (t : ParserSource) (b : List ℕ) → Sound supply schedule t b → 2 + n ≤ unread t → take n (drop (t .start + 2) (heldIn supply t b)) ≡ take n (drop 2 (ahead supply t b))
   text-part n t b g h =
       let k = passing supply schedule 2 {s = t} {buffer = b} g (omega arith) in
-      front supply schedule n (past 2 t) b (k .good) (omega arith) ∙ ap (take n) (sym (past-ahead 2 t b g (omega arith)))
+      front supply schedule n (readPast 2 t) b (k .good) (omega arith) ∙ ap (take n) (sym (past-ahead 2 t b g (omega arith)))
 
   string-of-finds : (n : ℕ) {s u : ParserSource} {buffer b : List ℕ} {t : Text} → n ≡ le (take 2 (ahead supply s buffer)) → stringOf supply schedule n s buffer ≡ drawn t u b
       → Finds F.string (textIn supply t u b) (2 + t .len) s buffer u b
   unfolding stringOf _then_ drawnThen
   string-of-finds n {s} {u} {buffer} {b} {t} d e = by (ensured supply schedule (2 + n) s buffer) refl e
     where
-      by : (x : Drawn (Unit {0})) → ensured supply schedule (2 + n) s buffer ≡ x → drawnThen x (λ _ v m. drawn (textAt (v .start + 2) n) (past (2 + n) v) m) ≡ drawn t u b
+      by : (x : Drawn (Unit {0})) → ensured supply schedule (2 + n) s buffer ≡ x → drawnThen x (λ _ v m. drawn (textAt (v .start + 2) n) (readPast (2 + n) v) m) ≡ drawn t u b
           → Finds F.string (textIn supply t u b) (2 + t .len) s buffer u b
       by (drawn a v m) q h =
           let z : textAt (v .start + 2) n ≡ t = cc in
-          let y : past (2 + n) v ≡ u = cc in
+          let y : readPast (2 + n) v ≡ u = cc in
           let x : m ≡ b = cc in
           let w = ready supply schedule s buffer (2 + n) q in
           let part = text-part n v m (w .good) (w .there) ∙ ap (λ (l : List ℕ). take n (drop 2 l)) (ensured-ahead supply schedule s buffer (2 + n) q) in

@@ -16,7 +16,7 @@ use Rattle.form.proofs.Lookups.{open-is, close-is, channel-is}
 use Rattle.payload.specs.declared.answers.Text.{Text}
 use Rattle.source.specs.declared.ParserSource.{ParserSource}
 use Rattle.source.specs.declared.answers.Stop.{Stop}
-use Rattle.source.specs.Window.{past, Drawn, drawn, halted, Draw, drawnThen, _then_, attempted, textAt, heldIn, ensured, taken, peeked}
+use Rattle.source.specs.Window.{readPast, Drawn, drawn, halted, Draw, drawnThen, _then_, attempted, textAt, heldIn, ensured, taken, peeked}
 use Rattle.source.specs.Answers.{stopAnswer}
 use Rattle.source.specs.Binary.{number, expected, channel, withAlpha, endedBy, ending, channels, colour}
 use Rattle.source.proofs.Cases.{ready}
@@ -45,11 +45,11 @@ module _ (supply schedule : List ℕ) (s : ParserSource) (buffer : List ℕ) whe
     unfolding taken _then_ drawnThen
     taken-there e = by (ensured supply schedule n s buffer) refl e
       where
-        by : (x : Drawn (Unit {0})) → ensured supply schedule n s buffer ≡ x → drawnThen x (λ _ v m. drawn (textAt (v .start) n) (past n v) m) ≡ drawn t u b
+        by : (x : Drawn (Unit {0})) → ensured supply schedule n s buffer ≡ x → drawnThen x (λ _ v m. drawn (textAt (v .start) n) (readPast n v) m) ≡ drawn t u b
             → n ≤ length (drop (t .start) (heldIn supply u b))
         by (drawn a v m) q h =
             let z : textAt (v .start) n ≡ t = cc in
-            let y : past n v ≡ u = cc in
+            let y : readPast n v ≡ u = cc in
             let x : m ≡ b = cc in
             rw (← z, ← y, ← x) (ready-there n q)
         by (halted r v m) q h = never (cc)

@@ -10,7 +10,7 @@ use Rattle.form.specs.Ids.{OPEN, CLOSE, CHANNEL}
 use Rattle.form.specs.Refusals.{InvalidRgb}
 use Rattle.payload.specs.declared.answers.Text.{Text}
 use Rattle.source.specs.declared.ParserSource.{ParserSource}
-use Rattle.source.specs.Window.{past, drawn, halted, Draw, _then_, textAt, heldIn, ensured, taken, peeked}
+use Rattle.source.specs.Window.{readPast, drawn, halted, Draw, _then_, textAt, heldIn, ensured, taken, peeked}
 
 -- the number that n bytes from a place spell
 abbrev pub spelledAt : List ℕ → ℕ → ParserSource → ℕ → List ℕ → ℕ
@@ -39,7 +39,7 @@ module _ (supply schedule : List ℕ) where
 
   -- a string of n bytes whose length is unread before it: it is read when it is whole
   unfoldable pub stringOf : ℕ → Draw Text
-  stringOf n = ensured supply schedule (2 + n) then (λ _ s buffer. drawn (textAt (s .start + 2) n) (past (2 + n) s) buffer)
+  stringOf n = ensured supply schedule (2 + n) then (λ _ s buffer. drawn (textAt (s .start + 2) n) (readPast (2 + n) s) buffer)
 
   -- `read_bstr`
   unfoldable pub string : Draw Text

@@ -44,8 +44,8 @@ checked s held supply schedule =
     (pick (ltb MAX (s .position + unread s + (supply - s .supply))) (Bad (s .position)) Fine))))
 
 -- n of the unread bytes are read
-abbrev pub past : ℕ → ParserSource → ParserSource
-past n s = record {
+abbrev pub readPast : ℕ → ParserSource → ParserSource
+readPast n s = record {
   start = s .start + n;
   end = s .end;
   supply = s .supply;
@@ -175,7 +175,7 @@ module _ (supply schedule : List ℕ) where
 
   -- `advance`
   unfoldable pub advanced : ℕ → Draw Bool
-  advanced n = fitting (λ s buffer. pick (leb n (unread s)) (drawn true (past n s) buffer) (drawn false s buffer))
+  advanced n = fitting (λ s buffer. pick (leb n (unread s)) (drawn true (readPast n s) buffer) (drawn false s buffer))
 
   -- `window_len`
   unfoldable pub windowLen : Draw ℕ
@@ -187,7 +187,7 @@ module _ (supply schedule : List ℕ) where
 
   -- `take` and `take_bytes`
   unfoldable pub taken : ℕ → Draw Text
-  taken n = ensured n then (λ _ s buffer. drawn (textAt (s .start) n) (past n s) buffer)
+  taken n = ensured n then (λ _ s buffer. drawn (textAt (s .start) n) (readPast n s) buffer)
 
   -- `try_take` and `try_take_bytes`
   unfoldable pub tried : ℕ → Draw (Option Text)

@@ -7,7 +7,7 @@ ghost use mathlib.Core.Path.{_≡_};
 ghost use Prim.Native.Nat.{_+_, _-_, _≤_};
 ghost use lib.ListN.{length};
 ghost use Rattle.form.specs.Numbers.{pick, MAX};
-ghost use Rattle.source.specs.Window.{newStream, newSlice, unread, checked, checkedIn, past, filled, topped, ensured, once, refilled, advanced, windowLen, windowOf, textIn, taken, tried, peeked};
+ghost use Rattle.source.specs.Window.{newStream, newSlice, unread, checked, checkedIn, readPast, filled, topped, ensured, once, refilled, advanced, windowLen, windowOf, textIn, taken, tried, peeked};
 ghost use Rattle.source.specs.Answers.{ensuredAnswer, refilledAnswer, advancedAnswer, windowLenAnswer, takenAnswer, triedAnswer};
 ghost use Rattle.source.specs.Good.{Good};
 pub use crate::answers::Advanced;
@@ -250,9 +250,9 @@ impl ParserSource {
     }
 
     // The state after so many of its unread bytes.
-    pub(crate) fn past(self, bytes: usize) -> Self
+    pub(crate) fn readPast(self, bytes: usize) -> Self
         requires { ⌜ (self .start + bytes ≤ MAX) × (self .position + bytes ≤ MAX) ⌝ }
-        ensures { λ r. ⌜ r ≡ past bytes self ⌝ }
+        ensures { λ r. ⌜ r ≡ readPast bytes self ⌝ }
     {
         ParserSource {
             start: self.start + bytes,

@@ -4,7 +4,7 @@ ghost use lib.ListN.{length};
 ghost use Rattle.form.specs.Numbers.{leBytes};
 ghost use Rattle.form.specs.Put.{Put};
 ghost use Rattle.form.specs.Spelling.{spelledChannel};
-ghost use Rattle.writer.specs.Layouts.{idNumber, idText, colourEnd, channels as Parts·channels, idColour, spelledBy};
+ghost use Rattle.writer.specs.Layouts.{idNumber, idText, colourEnd, channels as Layouts·channels, idColour, spelledBy};
 use crate::layout::Layout;
 use lexeme::LexemeId;
 use payload::Alpha;
@@ -89,8 +89,8 @@ fn colour_end(out: &mut [u8], at: usize, a: Alpha) -> usize
 
 // The channels of a colour, and its end.
 fn channels(out: &mut [u8], at: usize, c: Rgb) -> usize
-    requires { ⌜ at + length (Parts·channels c) ≤ length (now out) ⌝ }
-    ensures { λ r. ⌜ Put (now (out .entry)) at (Parts·channels c) (now (out .exit)) r ⌝ }
+    requires { ⌜ at + length (Layouts·channels c) ≤ length (now out) ⌝ }
+    ensures { λ r. ⌜ Put (now (out .entry)) at (Layouts·channels c) (now (out .exit)) r ⌝ }
 {
     let i = channel(out, at, c.r);
     let j = channel(out, i, c.g);
