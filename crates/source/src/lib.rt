@@ -250,7 +250,7 @@ impl ParserSource {
     }
 
     // The state after so many of its unread bytes.
-    pub(crate) fn readPast(self, bytes: usize) -> Self
+    pub(crate) fn past(self, bytes: usize) -> Self
         requires { ⌜ (self .start + bytes ≤ MAX) × (self .position + bytes ≤ MAX) ⌝ }
         ensures { λ r. ⌜ r ≡ readPast bytes self ⌝ }
     {
