@@ -64,12 +64,12 @@ module _ (answer state : List ℕ) {a : Asked} (ask : a ≡ asked answer state) 
     not-asked e m = rw (← ask, m, e)
 
     -- f is what the source answered, and x what is handed over
-    pub answers : {s : ParserSource} (f : List ℕ → Drawn A) (x : C.SourceReply) {n : ℕ} {list words bytes : List ℕ}
+    pub called-by : {s : ParserSource} (f : List ℕ → Drawn A) (x : C.SourceReply) {n : ℕ} {list words bytes : List ℕ}
         → a ≡ State s → f bytes ≡ call s buffer → sourceReplyOf x ≡ sourceReplyTo reply f
         → (returned n list ≡ into answer (asReply (x .reply))) × (words ≡ withState (x .next) state)
         → callerHas (returned n list) words bytes ≡ called reply call answer state buffer
     unfolding called calledFrom
-    answers f x {bytes = bytes} e g l h =
+    called-by f x {bytes = bytes} e g l h =
         let same : sourceReplyOf x bytes ≡ sourceReplyTo reply f bytes = ap {B = SourceReply} (λ (y : List ℕ → SourceReply). y bytes) l in
         rw (← ask, e, ← g, ← same, h .0, h .1)
 

@@ -1,6 +1,6 @@
 -- `capi::source_reads::stivlaheim_source_peek_lexeme_id` meets its contract. Assumes nothing.
 use Rattle.source.specs.Answers.{peekedIdAnswer}
-use Rattle.capi.proofs.Called.{not-asked, six-words, answers}
+use Rattle.capi.proofs.Called.{not-asked, six-words, called-by}
 use borrow.Author.Needs.{needs}
 use Rattle.capi.proofs.source_reads.stivlaheim_source_peek_lexeme_id.Statement.{statement}
 use Rattle.capi.proofs.source_reads.stivlaheim_source_peek_lexeme_id.Tie as tie
@@ -17,7 +17,7 @@ returns-2 c =
     let l = h .before .before .before in
     let t = l .before .before .before in
     let k = t .before .before .before in
-    answers _ _ (k .before .before .ask .ensures) _ _ _ (peekedIdAnswer (t .peek-lexeme-id .result)) (l .of-peeked-id .result) (k .a .given .1) (t .peek-lexeme-id .ensures) (l .of-peeked-id .ensures) (h .hand-over .ensures)
+    called-by _ _ (k .before .before .ask .ensures) _ _ _ (peekedIdAnswer (t .peek-lexeme-id .result)) (l .of-peeked-id .result) (k .a .given .1) (t .peek-lexeme-id .ensures) (l .of-peeked-id .ensures) (h .hand-over .ensures)
 
 pub stivlaheim-source-peek-lexeme-id-spec : {M : Type 1} → statement M
 stivlaheim-source-peek-lexeme-id-spec =

@@ -1,6 +1,6 @@
 -- `capi::source_reads::stivlaheim_source_read_bstr` meets its contract. Assumes nothing.
 use Rattle.source.specs.Answers.{takenAnswer}
-use Rattle.capi.proofs.Called.{not-asked, six-words, answers}
+use Rattle.capi.proofs.Called.{not-asked, six-words, called-by}
 use borrow.Author.Needs.{needs}
 use Rattle.capi.proofs.source_reads.stivlaheim_source_read_bstr.Statement.{statement}
 use Rattle.capi.proofs.source_reads.stivlaheim_source_read_bstr.Tie as tie
@@ -17,7 +17,7 @@ returns-2 c =
     let l = h .before .before .before in
     let t = l .before .before .before in
     let k = t .before .before .before in
-    answers _ _ (k .before .before .ask .ensures) _ _ _ (takenAnswer (t .read-bstr .result)) (l .of-taken .result) (k .a .given .1) (t .read-bstr .ensures) (l .of-taken .ensures) (h .hand-over .ensures)
+    called-by _ _ (k .before .before .ask .ensures) _ _ _ (takenAnswer (t .read-bstr .result)) (l .of-taken .result) (k .a .given .1) (t .read-bstr .ensures) (l .of-taken .ensures) (h .hand-over .ensures)
 
 pub stivlaheim-source-read-bstr-spec : {M : Type 1} → statement M
 stivlaheim-source-read-bstr-spec =

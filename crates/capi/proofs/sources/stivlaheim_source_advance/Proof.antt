@@ -1,6 +1,6 @@
 -- `capi::sources::stivlaheim_source_advance` meets its contract. Assumes nothing.
 use Rattle.source.specs.Answers.{advancedAnswer}
-use Rattle.capi.proofs.Called.{not-asked, six-words, answers}
+use Rattle.capi.proofs.Called.{not-asked, six-words, called-by}
 use borrow.Author.Needs.{needs}
 use Rattle.capi.proofs.sources.stivlaheim_source_advance.Statement.{statement}
 use Rattle.capi.proofs.sources.stivlaheim_source_advance.Tie as tie
@@ -17,7 +17,7 @@ returns-2 c =
     let l = h .before .before .before in
     let t = l .before in
     let k = t .before .before in
-    answers _ _ (k .before .before .ask .ensures) _ _ _ (advancedAnswer (t .advance .result)) (l .of-advanced .result) (k .a .given .1) (t .advance .ensures) (l .of-advanced .ensures) (h .hand-over .ensures)
+    called-by _ _ (k .before .before .ask .ensures) _ _ _ (advancedAnswer (t .advance .result)) (l .of-advanced .result) (k .a .given .1) (t .advance .ensures) (l .of-advanced .ensures) (h .hand-over .ensures)
 
 pub stivlaheim-source-advance-spec : {M : Type 1} → statement M
 stivlaheim-source-advance-spec =

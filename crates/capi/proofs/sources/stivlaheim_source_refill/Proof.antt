@@ -1,6 +1,6 @@
 -- `capi::sources::stivlaheim_source_refill` meets its contract. Assumes nothing.
 use Rattle.source.specs.Answers.{refilledAnswer}
-use Rattle.capi.proofs.Called.{not-asked, six-words, answers}
+use Rattle.capi.proofs.Called.{not-asked, six-words, called-by}
 use borrow.Author.Needs.{needs}
 use Rattle.capi.proofs.sources.stivlaheim_source_refill.Statement.{statement}
 use Rattle.capi.proofs.sources.stivlaheim_source_refill.Tie as tie
@@ -17,7 +17,7 @@ returns-2 c =
     let l = h .before .before .before in
     let t = l .before .before .before in
     let k = t .before .before .before in
-    answers _ _ (k .before .before .ask .ensures) _ _ _ (refilledAnswer (t .refill .result)) (l .of-refilled .result) (k .a .given .1) (t .refill .ensures) (l .of-refilled .ensures) (h .hand-over .ensures)
+    called-by _ _ (k .before .before .ask .ensures) _ _ _ (refilledAnswer (t .refill .result)) (l .of-refilled .result) (k .a .given .1) (t .refill .ensures) (l .of-refilled .ensures) (h .hand-over .ensures)
 
 pub stivlaheim-source-refill-spec : {M : Type 1} → statement M
 stivlaheim-source-refill-spec =

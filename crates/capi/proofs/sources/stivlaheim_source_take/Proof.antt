@@ -1,6 +1,6 @@
 -- `capi::sources::stivlaheim_source_take` meets its contract. Assumes nothing.
 use Rattle.source.specs.Answers.{takenAnswer}
-use Rattle.capi.proofs.Called.{not-asked, six-words, answers}
+use Rattle.capi.proofs.Called.{not-asked, six-words, called-by}
 use borrow.Author.Needs.{needs}
 use Rattle.capi.proofs.sources.stivlaheim_source_take.Statement.{statement}
 use Rattle.capi.proofs.sources.stivlaheim_source_take.Tie as tie
@@ -17,7 +17,7 @@ returns-2 c =
     let l = h .before .before .before in
     let t = l .before .before .before in
     let k = t .before .before .before in
-    answers _ _ (k .before .before .ask .ensures) _ _ _ (takenAnswer (t .take .result)) (l .of-taken .result) (k .a .given .1) (t .take .ensures) (l .of-taken .ensures) (h .hand-over .ensures)
+    called-by _ _ (k .before .before .ask .ensures) _ _ _ (takenAnswer (t .take .result)) (l .of-taken .result) (k .a .given .1) (t .take .ensures) (l .of-taken .ensures) (h .hand-over .ensures)
 
 pub stivlaheim-source-take-spec : {M : Type 1} → statement M
 stivlaheim-source-take-spec =

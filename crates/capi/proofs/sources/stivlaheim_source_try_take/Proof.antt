@@ -1,6 +1,6 @@
 -- `capi::sources::stivlaheim_source_try_take` meets its contract. Assumes nothing.
 use Rattle.source.specs.Answers.{triedAnswer}
-use Rattle.capi.proofs.Called.{not-asked, six-words, answers}
+use Rattle.capi.proofs.Called.{not-asked, six-words, called-by}
 use borrow.Author.Needs.{needs}
 use Rattle.capi.proofs.sources.stivlaheim_source_try_take.Statement.{statement}
 use Rattle.capi.proofs.sources.stivlaheim_source_try_take.Tie as tie
@@ -17,7 +17,7 @@ returns-2 c =
     let l = h .before .before .before in
     let t = l .before .before .before in
     let k = t .before .before .before in
-    answers _ _ (k .before .before .ask .ensures) _ _ _ (triedAnswer (t .try-take .result)) (l .of-tried .result) (k .a .given .1) (t .try-take .ensures) (l .of-tried .ensures) (h .hand-over .ensures)
+    called-by _ _ (k .before .before .ask .ensures) _ _ _ (triedAnswer (t .try-take .result)) (l .of-tried .result) (k .a .given .1) (t .try-take .ensures) (l .of-tried .ensures) (h .hand-over .ensures)
 
 pub stivlaheim-source-try-take-spec : {M : Type 1} → statement M
 stivlaheim-source-try-take-spec =

@@ -4,7 +4,7 @@ use Rattle.payload.specs.declared.answers.Text.{Text}
 use Rattle.source.specs.Window.{Drawn}
 use Rattle.source.specs.Answers.{windowLenAnswer}
 use Rattle.capi.specs.Sources.{asPart, windowPart}
-use Rattle.capi.proofs.Called.{not-asked, six-words, answers}
+use Rattle.capi.proofs.Called.{not-asked, six-words, called-by}
 use borrow.Author.Needs.{needs}
 use Rattle.capi.proofs.sources.stivlaheim_source_window.Statement.{statement}
 use Rattle.capi.proofs.sources.stivlaheim_source_window.Tie as tie
@@ -23,7 +23,7 @@ returns-2 c =
     let t = l .before in
     let k = t .before .before in
     let s = k .a .given .0 .0 in
-    answers _ _ (k .before .before .ask .ensures) _ _ _ (λ l. asPart (windowLenAnswer s (t .window-len .result) l)) (l .of-window .result) (k .a .given .1) (ap {B = Drawn Text} asPart (t .window-len .ensures)) (l .of-window .ensures) (h .hand-over .ensures)
+    called-by _ _ (k .before .before .ask .ensures) _ _ _ (λ l. asPart (windowLenAnswer s (t .window-len .result) l)) (l .of-window .result) (k .a .given .1) (ap {B = Drawn Text} asPart (t .window-len .ensures)) (l .of-window .ensures) (h .hand-over .ensures)
 
 pub stivlaheim-source-window-spec : {M : Type 1} → statement M
 stivlaheim-source-window-spec =

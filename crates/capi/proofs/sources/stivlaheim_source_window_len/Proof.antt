@@ -1,6 +1,6 @@
 -- `capi::sources::stivlaheim_source_window_len` meets its contract. Assumes nothing.
 use Rattle.source.specs.Answers.{windowLenAnswer}
-use Rattle.capi.proofs.Called.{not-asked, six-words, answers}
+use Rattle.capi.proofs.Called.{not-asked, six-words, called-by}
 use borrow.Author.Needs.{needs}
 use Rattle.capi.proofs.sources.stivlaheim_source_window_len.Statement.{statement}
 use Rattle.capi.proofs.sources.stivlaheim_source_window_len.Tie as tie
@@ -18,7 +18,7 @@ returns-2 c =
     let t = l .before in
     let k = t .before .before in
     let s = k .a .given .0 .0 in
-    answers _ _ (k .before .before .ask .ensures) _ _ _ (windowLenAnswer s (t .window-len .result)) (l .of-window-len .result) (k .a .given .1) (t .window-len .ensures) (l .of-window-len .ensures) (h .hand-over .ensures)
+    called-by _ _ (k .before .before .ask .ensures) _ _ _ (windowLenAnswer s (t .window-len .result)) (l .of-window-len .result) (k .a .given .1) (t .window-len .ensures) (l .of-window-len .ensures) (h .hand-over .ensures)
 
 pub stivlaheim-source-window-len-spec : {M : Type 1} → statement M
 stivlaheim-source-window-len-spec =
