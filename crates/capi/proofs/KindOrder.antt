@@ -48,11 +48,17 @@ at-place k [] h i = tt
 at-place k (o ∷ os) h zero = let e : k ≡ k + 0 = omega arith in subst (λ (n : ℕ). OfKind n o) e (h .0)
 at-place k (o ∷ os) h (suc i) = let e : k + 1 + i ≡ k + suc i = omega arith in subst (λ (n : ℕ). OfKind n (getD os i none)) e (at-place (k + 1) os (h .1) i)
 
+-- the five words that are looked at
+abbrev tokensOf : List ℕ → List (Option Token)
+tokensOf ws = kindTokens (getD ws 0 0) (getD ws 1 0) (getD ws 2 0) (getD ws 3 0) (getD ws 4 0)
+
+of-words : (k : ℕ) (ws : List ℕ) → OfKind k (kindToken k ws)
+unfolding kindToken
+of-words k ws =
+    let z : 0 + k ≡ k = omega arith in
+    subst (λ (n : ℕ). OfKind n (getD (tokensOf ws) k none)) z
+    (at-place 0 (tokensOf ws) (in-order (getD ws 0 0) (getD ws 1 0) (getD ws 2 0) (getD ws 3 0) (getD ws 4 0)) k)
+
 pub offered-kind : (k : ℕ) (ws : List ℕ) {t : Token} → offeredToken k ws ≡ some t → kind (valueOf [] t) ≡ k
-unfolding offeredToken kindToken
-offered-kind k ws {t} e = rw e at (either k (leb 5 (length ws)) _ none (of-words) tt)
-  where
-    of-words : OfKind k (kindToken k ws)
-    of-words =
-        let z : 0 + k ≡ k = omega arith in
-        subst (λ (n : ℕ). OfKind n (kindToken k ws)) z (at-place 0 _ (in-order (getD ws 0 0) (getD ws 1 0) (getD ws 2 0) (getD ws 3 0) (getD ws 4 0)) k)
+unfolding offeredToken
+offered-kind k ws {t} e = subst (λ (o : Option Token). OfKind k o) e (either k (leb 5 (length ws)) (kindToken k ws) none (of-words k ws) tt)
