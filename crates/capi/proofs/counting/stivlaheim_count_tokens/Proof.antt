@@ -4,7 +4,7 @@ use Rattle.capi.proofs.counting.stivlaheim_count_tokens.Statement.{stat
 use Rattle.capi.proofs.counting.stivlaheim_count_tokens.Tie as tie
 
 returns : tie.Need-returns
-returns c = cc
+returns c = rw (← c .before .before .before .count .ensures) (c .before .before .store .ensures)
 
 pub stivlaheim-count-tokens-spec : {M : Type 1} → statement M
 stivlaheim-count-tokens-spec =

@@ -4,7 +4,7 @@ use Rattle.capi.proofs.lexing.stivlaheim_next_token.Statement.{statemen
 use Rattle.capi.proofs.lexing.stivlaheim_next_token.Tie as tie
 
 returns : tie.Need-returns
-returns c = cc
+returns c = rw (← c .before .before .before .before .next-token .ensures, ← c .before .before .before .of-next-token .ensures) (c .before .before .store .ensures)
 
 pub stivlaheim-next-token-spec : {M : Type 1} → statement M
 stivlaheim-next-token-spec =

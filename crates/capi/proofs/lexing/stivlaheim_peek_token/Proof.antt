@@ -4,7 +4,7 @@ use Rattle.capi.proofs.lexing.stivlaheim_peek_token.Statement.{statemen
 use Rattle.capi.proofs.lexing.stivlaheim_peek_token.Tie as tie
 
 returns : tie.Need-returns
-returns c = cc
+returns c = rw (← c .before .before .before .before .peek-token .ensures, ← c .before .before .before .of-peek-token .ensures) (c .before .before .store .ensures)
 
 pub stivlaheim-peek-token-spec : {M : Type 1} → statement M
 stivlaheim-peek-token-spec =

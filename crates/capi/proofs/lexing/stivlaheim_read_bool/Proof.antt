@@ -4,7 +4,7 @@ use Rattle.capi.proofs.lexing.stivlaheim_read_bool.Statement.{statement
 use Rattle.capi.proofs.lexing.stivlaheim_read_bool.Tie as tie
 
 returns : tie.Need-returns
-returns c = cc
+returns c = rw (← c .before .before .before .before .read-bool .ensures, ← c .before .before .before .of-bool .ensures) (c .before .before .store .ensures)
 
 pub stivlaheim-read-bool-spec : {M : Type 1} → statement M
 stivlaheim-read-bool-spec =

@@ -4,7 +4,7 @@ use Rattle.capi.proofs.lexing.stivlaheim_read_bytes.Statement.{statemen
 use Rattle.capi.proofs.lexing.stivlaheim_read_bytes.Tie as tie
 
 returns : tie.Need-returns
-returns c = cc
+returns c = rw (← c .before .before .before .before .read-bytes .ensures, ← c .before .before .before .of-string .ensures) (c .before .before .store .ensures)
 
 pub stivlaheim-read-bytes-spec : {M : Type 1} → statement M
 stivlaheim-read-bytes-spec =

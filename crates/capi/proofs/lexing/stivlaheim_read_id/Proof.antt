@@ -4,7 +4,7 @@ use Rattle.capi.proofs.lexing.stivlaheim_read_id.Statement.{statement}
 use Rattle.capi.proofs.lexing.stivlaheim_read_id.Tie as tie
 
 returns : tie.Need-returns
-returns c = cc
+returns c = rw (← c .before .before .before .before .read-id .ensures, ← c .before .before .before .of-id .ensures) (c .before .before .store .ensures)
 
 pub stivlaheim-read-id-spec : {M : Type 1} → statement M
 stivlaheim-read-id-spec =

@@ -4,7 +4,7 @@ use Rattle.capi.proofs.lexing.stivlaheim_read_lookup_u16.Statement.{sta
 use Rattle.capi.proofs.lexing.stivlaheim_read_lookup_u16.Tie as tie
 
 returns : tie.Need-returns
-returns c = cc
+returns c = rw (← c .before .before .before .before .read-lookup-u16 .ensures, ← c .before .before .before .of-u16 .ensures) (c .before .before .store .ensures)
 
 pub stivlaheim-read-lookup-u16-spec : {M : Type 1} → statement M
 stivlaheim-read-lookup-u16-spec =

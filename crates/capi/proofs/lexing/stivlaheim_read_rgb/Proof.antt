@@ -4,7 +4,7 @@ use Rattle.capi.proofs.lexing.stivlaheim_read_rgb.Statement.{statement}
 use Rattle.capi.proofs.lexing.stivlaheim_read_rgb.Tie as tie
 
 returns : tie.Need-returns
-returns c = cc
+returns c = rw (← c .before .before .before .before .read-rgb .ensures, ← c .before .before .before .of-rgb .ensures) (c .before .before .store .ensures)
 
 pub stivlaheim-read-rgb-spec : {M : Type 1} → statement M
 stivlaheim-read-rgb-spec =

@@ -4,7 +4,7 @@ use Rattle.capi.proofs.lexing.stivlaheim_read_string.Statement.{stateme
 use Rattle.capi.proofs.lexing.stivlaheim_read_string.Tie as tie
 
 returns : tie.Need-returns
-returns c = cc
+returns c = rw (← c .before .before .before .before .read-string .ensures, ← c .before .before .before .of-string .ensures) (c .before .before .store .ensures)
 
 pub stivlaheim-read-string-spec : {M : Type 1} → statement M
 stivlaheim-read-string-spec =

@@ -4,7 +4,7 @@ use Rattle.capi.proofs.lexing.stivlaheim_read_token.Statement.{statemen
 use Rattle.capi.proofs.lexing.stivlaheim_read_token.Tie as tie
 
 returns : tie.Need-returns
-returns c = cc
+returns c = rw (← c .before .before .before .before .read-token .ensures, ← c .before .before .before .of-token .ensures) (c .before .before .store .ensures)
 
 pub stivlaheim-read-token-spec : {M : Type 1} → statement M
 stivlaheim-read-token-spec =

@@ -4,7 +4,7 @@ use Rattle.capi.proofs.lexing.stivlaheim_remainder.Statement.{statement
 use Rattle.capi.proofs.lexing.stivlaheim_remainder.Tie as tie
 
 returns : tie.Need-returns
-returns c = cc
+returns c = rw (← c .before .before .before .before .remainder .ensures, ← c .before .before .before .of-string .ensures) (c .before .before .store .ensures)
 
 pub stivlaheim-remainder-spec : {M : Type 1} → statement M
 stivlaheim-remainder-spec =

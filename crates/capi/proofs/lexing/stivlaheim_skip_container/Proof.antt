@@ -4,7 +4,7 @@ use Rattle.capi.proofs.lexing.stivlaheim_skip_container.Statement.{stat
 use Rattle.capi.proofs.lexing.stivlaheim_skip_container.Tie as tie
 
 returns : tie.Need-returns
-returns c = cc
+returns c = rw (← c .before .before .before .before .skip-container .ensures, ← c .before .before .before .of-skip .ensures) (c .before .before .store .ensures)
 
 pub stivlaheim-skip-container-spec : {M : Type 1} → statement M
 stivlaheim-skip-container-spec =

@@ -4,7 +4,7 @@ use Rattle.capi.proofs.lexing.stivlaheim_skip_value.Statement.{statemen
 use Rattle.capi.proofs.lexing.stivlaheim_skip_value.Tie as tie
 
 returns : tie.Need-returns
-returns c = cc
+returns c = rw (← c .before .before .before .before .skip-value .ensures, ← c .before .before .before .of-skip .ensures) (c .before .before .store .ensures)
 
 pub stivlaheim-skip-value-spec : {M : Type 1} → statement M
 stivlaheim-skip-value-spec =

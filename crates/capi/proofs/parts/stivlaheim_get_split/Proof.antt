@@ -4,7 +4,7 @@ use Rattle.capi.proofs.parts.stivlaheim_get_split.Statement.{statement}
 use Rattle.capi.proofs.parts.stivlaheim_get_split.Tie as tie
 
 returns : tie.Need-returns
-returns c = cc
+returns c = rw (← c .before .before .before .split-reply .ensures) (c .before .before .store .ensures)
 
 pub stivlaheim-get-split-spec : {M : Type 1} → statement M
 stivlaheim-get-split-spec =

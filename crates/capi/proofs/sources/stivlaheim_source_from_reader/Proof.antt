@@ -4,7 +4,7 @@ use Rattle.capi.proofs.sources.stivlaheim_source_from_reader.Statement.
 use Rattle.capi.proofs.sources.stivlaheim_source_from_reader.Tie as tie
 
 returns : tie.Need-returns
-returns c = cc
+returns c = rw (← c .before .before .before .from-reader .ensures) (c .before .before .begin .ensures)
 
 pub stivlaheim-source-from-reader-spec : {M : Type 1} → statement M
 stivlaheim-source-from-reader-spec =

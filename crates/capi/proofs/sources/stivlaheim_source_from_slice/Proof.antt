@@ -4,7 +4,7 @@ use Rattle.capi.proofs.sources.stivlaheim_source_from_slice.Statement.{
 use Rattle.capi.proofs.sources.stivlaheim_source_from_slice.Tie as tie
 
 returns : tie.Need-returns
-returns c = cc
+returns c = rw (← c .before .before .before .from-slice .ensures) (c .before .before .begin .ensures)
 
 pub stivlaheim-source-from-slice-spec : {M : Type 1} → statement M
 stivlaheim-source-from-slice-spec =
