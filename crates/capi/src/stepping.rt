@@ -36,7 +36,19 @@ fn step(window: &[u8], held: &mut [u8]) -> Step
     ensures { λ r. ⌜ stepOf r ≡ fastStep (now (window .entry)) (now (held .entry)) .step ⌝ }
     ensures { λ _. ⌜ now (held .exit) ≡ fastStep (now (window .entry)) (now (held .entry)) .held ⌝ }
 {
-    let before = [
+    let before = eight(held);
+    let x = fast::next_token_fast(window, before);
+    let after = x.held;
+    put_eight(held, after);
+    x.step
+}
+
+// The held bytes, one by one.
+fn eight(held: &[u8]) -> [u8; 8]
+    requires { ⌜ length (now held) ≡ 8 ⌝ }
+    ensures { λ r. ⌜ r ≡ now (held .entry) ⌝ }
+{
+    [
         held[0],
         held[1],
         held[2],
@@ -45,9 +57,13 @@ fn step(window: &[u8], held: &mut [u8]) -> Step
         held[5],
         held[6],
         held[7],
-    ];
-    let x = fast::next_token_fast(window, before);
-    let after = x.held;
+    ]
+}
+
+fn put_eight(held: &mut [u8], after: [u8; 8])
+    requires { ⌜ length (now held) ≡ 8 ⌝ }
+    ensures { λ _. ⌜ now (held .exit) ≡ after ⌝ }
+{
     held[0] = after[0];
     held[1] = after[1];
     held[2] = after[2];
@@ -56,7 +72,6 @@ fn step(window: &[u8], held: &mut [u8]) -> Step
     held[5] = after[5];
     held[6] = after[6];
     held[7] = after[7];
-    x.step
 }
 
 fn step_reply(x: Step) -> Reply
