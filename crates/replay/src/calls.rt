@@ -66,14 +66,35 @@ fn same_words(numbers: &[u64; NUMBERS], answer: &[u64; 8]) -> bool {
 
 // The recording numbers them in the same order.
 fn ask(call: u64, bytes: &[u8], at: usize, arg: usize, answer: &mut [u64]) -> Asked {
+    match call {
+        1 => into_kind(arg),
+        2 => is_id(arg),
+        3..=6 => ask_part(call, bytes, at, arg, answer),
+        7..=13 => ask_token(call, bytes, at, answer),
+        14..=19 => ask_text(call, bytes, at, answer),
+        20..=26 => ask_number(call, bytes, at, answer),
+        27 => skip_value(bytes, at, arg, answer),
+        28 => Asked::Code(lexing::stivlaheim_skip_container(bytes, at, answer)),
+        _ => Asked::Nothing,
+    }
+}
+
+fn ask_part(call: u64, bytes: &[u8], at: usize, arg: usize, answer: &mut [u64]) -> Asked {
     Asked::Code(
         match call {
-            1 => return into_kind(arg),
-            2 => return is_id(arg),
             3 => parts::stivlaheim_get_split(bytes, arg, answer),
             4 => parts::stivlaheim_text(bytes, at, arg, answer),
             5 => lexing::stivlaheim_remainder(bytes, at, answer),
             6 => lexing::stivlaheim_read_bytes(bytes, at, arg, answer),
+            _ => return Asked::Nothing,
+        },
+    )
+}
+
+// Ids and tokens.
+fn ask_token(call: u64, bytes: &[u8], at: usize, answer: &mut [u64]) -> Asked {
+    Asked::Code(
+        match call {
             7 => lexing::stivlaheim_read_id(bytes, at, answer),
             8 => lexing::stivlaheim_next_id(bytes, at, answer),
             9 => lexing::stivlaheim_peek_id(bytes, at, answer),
@@ -81,12 +102,30 @@ fn ask(call: u64, bytes: &[u8], at: usize, arg: usize, answer: &mut [u64]) -> As
             11 => lexing::stivlaheim_next_token(bytes, at, answer),
             12 => lexing::stivlaheim_peek_token(bytes, at, answer),
             13 => counting::stivlaheim_count_tokens(bytes, answer),
+            _ => return Asked::Nothing,
+        },
+    )
+}
+
+// Strings, bools and lookups.
+fn ask_text(call: u64, bytes: &[u8], at: usize, answer: &mut [u64]) -> Asked {
+    Asked::Code(
+        match call {
             14 => lexing::stivlaheim_read_string(bytes, at, answer),
             15 => lexing::stivlaheim_read_bool(bytes, at, answer),
             16 => lexing::stivlaheim_read_lookup_u8(bytes, at, answer),
             17 => lexing::stivlaheim_read_lookup_u16(bytes, at, answer),
             18 => lexing::stivlaheim_read_lookup_u24(bytes, at, answer),
             19 => lexing::stivlaheim_read_lookup_u32(bytes, at, answer),
+            _ => return Asked::Nothing,
+        },
+    )
+}
+
+// Numbers and colours.
+fn ask_number(call: u64, bytes: &[u8], at: usize, answer: &mut [u64]) -> Asked {
+    Asked::Code(
+        match call {
             20 => lexing::stivlaheim_read_u32(bytes, at, answer),
             21 => lexing::stivlaheim_read_u64(bytes, at, answer),
             22 => lexing::stivlaheim_read_i32(bytes, at, answer),
@@ -94,8 +133,6 @@ fn ask(call: u64, bytes: &[u8], at: usize, arg: usize, answer: &mut [u64]) -> As
             24 => lexing::stivlaheim_read_f32(bytes, at, answer),
             25 => lexing::stivlaheim_read_f64(bytes, at, answer),
             26 => lexing::stivlaheim_read_rgb(bytes, at, answer),
-            27 => return skip_value(bytes, at, arg, answer),
-            28 => lexing::stivlaheim_skip_container(bytes, at, answer),
             _ => return Asked::Nothing,
         },
     )
