@@ -37,7 +37,7 @@ static int refused(const struct save *save, uint32_t code, uint64_t number) {
     switch (code) {
     case STIVLAHEIM_EOF: why = "Eof at"; break;
     case STIVLAHEIM_INVALID_RGB: why = "InvalidRgb at"; break;
-    case STIVLAHEIM_NOT_ENCODABLE: why = "NotEncodable at"; break;
+    case STIVLAHEIM_WIDE_LOOKUP: why = "WideLookup at"; break;
     case STIVLAHEIM_BAD_PLACE: why = "BadPlace at"; break;
     case STIVLAHEIM_TOO_LONG: why = "TooLong, bytes:"; break;
     }

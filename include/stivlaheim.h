@@ -52,13 +52,15 @@ enum {
     /* Refusals, with what word 1 holds. */
     STIVLAHEIM_EOF = 1,              /* the position */
     STIVLAHEIM_INVALID_RGB = 2,      /* the position */
-    STIVLAHEIM_NOT_ENCODABLE = 3,    /* the token's position */
     STIVLAHEIM_NO_ROOM = 4,          /* the bytes needed */
     STIVLAHEIM_BUFFER_TOO_SMALL = 5, /* the position */
     STIVLAHEIM_READ_FAILED = 6,      /* the position */
     STIVLAHEIM_BAD_PLACE = 7,        /* the place given */
     STIVLAHEIM_TOO_LONG = 8,         /* the input's length */
-    STIVLAHEIM_NONE = 9,
+    STIVLAHEIM_LONG_STRING = 31,     /* the token's position; of stivlaheim_write 0 */
+    STIVLAHEIM_WIDE_LOOKUP = 32,     /* the same */
+    STIVLAHEIM_RESERVED_ID = 33,     /* the same */
+    STIVLAHEIM_NONE = 9,             /* no refusal: there is none */
     STIVLAHEIM_SHORT_ANSWER = 100,
     STIVLAHEIM_BAD_ARGUMENT = 101 /* what was handed over is not what the call takes; nothing is changed */
 };
@@ -186,8 +188,8 @@ uint32_t stivlaheim_count_tokens(const uint8_t *bytes, size_t bytes_len, uint64_
  * `bytes`. `words` has at least five words, and those beyond the token's own are not looked at. BAD_ARGUMENT, after the test of the answer
  * list, if there are fewer than five, if there is no such kind, or if the words are no value of it: a number that is too large for its
  * type, a bool or a colour's fourth word over 1. An alpha is looked at only where the fourth word is 1. BAD_PLACE with the start if the
- * text does not lie within the bytes; NOT_ENCODABLE with 0 if a text is longer than 65535 bytes, a lookup needs more than three bytes, or
- * an id is reserved; NO_ROOM if `out` is too short. They are tested in this order. */
+ * text does not lie within the bytes; LONG_STRING with 0 if the text is longer than 65535 bytes, WIDE_LOOKUP with 0 if a lookup needs more
+ * than three bytes, RESERVED_ID with 0 if an id is reserved; NO_ROOM if `out` is too short. They are tested in this order. */
 uint32_t stivlaheim_write(const uint8_t *bytes, size_t bytes_len, uint32_t kind, const uint64_t *words, size_t words_len, uint8_t *out,
                           size_t out_len, uint64_t *answer, size_t answer_len);
 
@@ -195,7 +197,7 @@ uint32_t stivlaheim_write(const uint8_t *bytes, size_t bytes_len, uint32_t kind,
 #define STIVLAHEIM_LIMIT UINT64_C(2147483648)
 
 /* A save in normal form. TOO_LONG over 2,147,483,648 bytes, before anything is read; then the first refusal in the order of the file: EOF,
- * INVALID_RGB, or NOT_ENCODABLE with the position of a lookup that needs more than three bytes; then NO_ROOM with the bytes needed. An
+ * INVALID_RGB, or WIDE_LOOKUP with the position of a lookup that needs more than three bytes; then NO_ROOM with the bytes needed. An
  * output of five times the save's length always suffices; one of no bytes tells what is needed. */
 uint32_t stivlaheim_normalise(const uint8_t *bytes, size_t bytes_len, uint8_t *out, size_t out_len, uint64_t *answer, size_t answer_len);
 

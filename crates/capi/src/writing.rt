@@ -50,7 +50,9 @@ fn wrote_reply(x: Wrote) -> Reply
 {
     match x {
         Wrote::Written(n) => replies::answered(n, 0, 0, 0),
-        Wrote::NotEncodable(p) => replies::coded(codes::NOT_ENCODABLE, 0, p as u64, 0, 0),
+        Wrote::LongString(p) => replies::coded(codes::LONG_STRING, 0, p as u64, 0, 0),
+        Wrote::WideLookup(p) => replies::coded(codes::WIDE_LOOKUP, 0, p as u64, 0, 0),
+        Wrote::ReservedId(p) => replies::coded(codes::RESERVED_ID, 0, p as u64, 0, 0),
         Wrote::NoRoom(n) => replies::coded(codes::NO_ROOM, 0, n as u64, 0, 0),
         Wrote::BadPlace(p) => replies::coded(codes::BAD_PLACE, 0, p as u64, 0, 0),
     }
@@ -76,7 +78,7 @@ fn normalised_reply(x: Normalised) -> Reply
         Normalised::Written(n) => replies::answered(n, 0, 0, 0),
         Normalised::Eof(p) => replies::coded(codes::EOF, 0, p as u64, 0, 0),
         Normalised::InvalidRgb(p) => replies::coded(codes::INVALID_RGB, 0, p as u64, 0, 0),
-        Normalised::NotEncodable(p) => replies::coded(codes::NOT_ENCODABLE, 0, p as u64, 0, 0),
+        Normalised::WideLookup(p) => replies::coded(codes::WIDE_LOOKUP, 0, p as u64, 0, 0),
         Normalised::NoRoom(n) => replies::coded(codes::NO_ROOM, 0, n as u64, 0, 0),
         Normalised::TooLong(n) => replies::coded(codes::TOO_LONG, 0, n as u64, 0, 0),
     }

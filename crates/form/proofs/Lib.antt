@@ -6,6 +6,7 @@ pub mod Inside
 pub mod Lookups
 pub mod Elsewhere
 pub mod Reserved
+pub mod Reasons
 pub mod Tags
 pub mod ReadsBack
 pub mod Sound
@@ -16,6 +17,7 @@ pub mod SkipSteps
 pub mod FastAgrees
 pub mod Normal
 pub mod Normalising
+pub mod Refusing
 pub mod Rooms
 pub mod Outputs
 pub mod Runs

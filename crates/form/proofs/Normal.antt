@@ -91,7 +91,7 @@ spelled-bytes (v ∷ vs) e =
 
 -- ---- the four promises
 
-clean-kept : {s : List ℕ} → Clean s → Enc (tokens s) × (length (normal s) ≤ 5 * length s)
+pub clean-kept : {s : List ℕ} → Clean s → Enc (tokens s) × (length (normal s) ≤ 5 * length s)
 unfolding tokens walk normal
 clean-kept {s} c = kept (length s) 0 s (le-refl _) (c .bytes) (c .ends) (c .narrow)
 

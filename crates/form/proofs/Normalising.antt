@@ -8,38 +8,36 @@ use lib.ListN.{length}
 use lib.Dec.{T, leb}
 use borrow.Author.Tests.{le-leb, leb-true}
 use Rattle.form.specs.Numbers.{pick, Bytes}
-use Rattle.form.specs.Refusals.{Refusal, NotEncodable, NoRoom, TooLong}
-use Rattle.form.specs.Spelling.{wide}
+use Rattle.form.specs.Refusals.{Refusal, NoRoom, TooLong}
+use Rattle.form.specs.Spelling.{reason, wide}
 use Rattle.form.specs.Saves.{Walk, done, cut, then, walk, values, whole, tokens, normal, allNarrow, LIMIT, Clean}
-use Rattle.form.specs.Writing.{written, unwritten, fitted, firstRefusal, unless, normalise}
+use Rattle.form.specs.Writing.{written, unwritten, fitted, first, firstRefusal, unless, normalise}
 use Rattle.form.proofs.Never.{never}
+use Rattle.form.proofs.Reasons.{writable-none, none-narrow}
+use Rattle.form.proofs.Normal.{Enc, clean-kept}
 
--- a save has no refusal exactly when it reads to its end and holds no wide lookup
-unrefused : (w : Walk) → T (whole w) → T (allNarrow (values w)) → firstRefusal w ≡ none
-unfolding firstRefusal whole values allNarrow
-unrefused done h n = refl
-unrefused (cut r) h n = absurd h
-unrefused (then p k v w) h n = go (wide v) n (unrefused w h)
-  where
-    go : (b : Bool) → T (not b && allNarrow (values w)) → (T (allNarrow (values w)) → firstRefusal w ≡ none) → pick b (some (NotEncodable p)) (firstRefusal w) ≡ none
-    go true t k = absurd t
-    go false t k = k t
+-- a save has no refusal exactly when it reads to its end and each token can be written
+unrefused : (w : Walk) → T (whole w) → Enc (values w) → firstRefusal w ≡ none
+unfolding firstRefusal whole values
+unrefused done h e = refl
+unrefused (cut r) h e = absurd h
+unrefused (then p k v w) h e = rw (writable-none p v (e .1)) (unrefused w h (e .2))
 
 pub refusal-free : (w : Walk) → firstRefusal w ≡ none → T (whole w) × T (allNarrow (values w))
 unfolding firstRefusal whole values allNarrow
 refusal-free done e = (tt, tt)
 refusal-free (cut r) e = never (cc)
-refusal-free (then p k v w) e = go (wide v) e (refusal-free w)
+refusal-free (then p k v w) e = go (reason p v) refl e (refusal-free w)
   where
-    go : (b : Bool) → pick b (some (NotEncodable p)) (firstRefusal w) ≡ none → (firstRefusal w ≡ none → T (whole w) × T (allNarrow (values w)))
-        → T (whole w) × T (not b && allNarrow (values w))
-    go true q k = never (cc)
-    go false q k = k q
+    go : (o : Option Refusal) → reason p v ≡ o → first o (firstRefusal w) ≡ none → (firstRefusal w ≡ none → T (whole w) × T (allNarrow (values w)))
+        → T (whole w) × T (not (wide v) && allNarrow (values w))
+    go (some r) h q k = never (cc)
+    go none h q k = rw (none-narrow p v h) (k q)
 
 -- a clean save is written in normal form, where there is room
 pub clean-normalises : {s : List ℕ} → Clean s → (room : ℕ) → normalise room s ≡ fitted room (normal s)
 unfolding normalise unless tokens
-clean-normalises {s} c room = rw (le-leb (length s) LIMIT (c .limit), unrefused (walk s) (c .ends) (c .narrow))
+clean-normalises {s} c room = rw (le-leb (length s) LIMIT (c .limit), unrefused (walk s) (c .ends) (clean-kept c .0))
 
 pub clean-fits : {s : List ℕ} → Clean s → (room : ℕ) → length (normal s) ≤ room → normalise room s ≡ written (normal s)
 unfolding fitted

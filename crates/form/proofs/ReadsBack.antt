@@ -17,11 +17,13 @@ use Rattle.form.specs.Numbers.{leBytes}
 use Rattle.form.specs.Values.{Value, Open, Close, Equal, U32, U64, F32, F64, Lookup, Id, I32, I64, Truth, Quoted, Unquoted, Rgb, kind}
 use Rattle.form.specs.Table.{number, text, table, entries, find, orPlain, after, reserved}
 use Rattle.form.specs.Ids.{OPEN, CLOSE, CHANNEL}
+use Rattle.form.specs.Refusals.{LongString, WideLookup}
 use Rattle.form.specs.Readers.{Answer, found, Reader, further, andThen, mapped, _followed-by_, _giving_, give}
 use Rattle.form.specs.Reading.{next, num, string, Channel, channel, withAlpha, ending, headed, judged, rgb, payload, token}
-use Rattle.form.specs.Spelling.{tag, spelledChannel, spelledAlpha, bit, body, spell, writable, InType}
+use Rattle.form.specs.Spelling.{tag, spelledChannel, spelledAlpha, bit, body, spell, reason, writable, InType}
 use Rattle.form.proofs.LittleEndian.{length-bytes, le-bytes}
 use Rattle.form.proofs.Lookups.{plain-after, open-is, close-is, channel-is}
+use Rattle.form.proofs.Reasons.{passed}
 use Rattle.form.proofs.Tags.{unreserved}
 
 -- ---- bytes, numbers and texts
@@ -136,7 +138,7 @@ bit-lt false = lit< tt
 
 -- THE KEY: what is spelled reads back, whatever follows
 pub reads-back : (v : Value) → InType v → T (writable v) → (s : List ℕ) → token (spell v ++ s) ≡ found v (length (spell v))
-unfolding spell tag body leBytes spelledChannel spelledAlpha after find entries table orPlain writable further payload kind
+unfolding spell tag body leBytes spelledChannel spelledAlpha after find entries table orPlain reason writable further payload kind
 reads-back Open h w s = number-back 3 0 0 (λ _. Open) (lit< tt) refl (lit< tt) s
 reads-back Close h w s = number-back 4 0 0 (λ _. Close) (lit< tt) refl (lit< tt) s
 reads-back Equal h w s = number-back 1 0 0 (λ _. Equal) (lit< tt) refl (lit< tt) s
@@ -144,12 +146,12 @@ reads-back (U32 n) h w s = number-back 0x14 4 n U32 (lit< tt) refl h s
 reads-back (U64 n) h w s = number-back 0x29c 8 n U64 (lit< tt) refl h s
 reads-back (F32 n) h w s = number-back 0xd 4 n F32 (lit< tt) refl h s
 reads-back (F64 n) h w s = number-back 0x167 8 n F64 (lit< tt) refl h s
-reads-back (Lookup n) h w s = number-back 0xd41 3 n Lookup (lit< tt) refl (ltb→lt _ _ w) s
-reads-back (Id i) h w s = number-back i 0 0 (λ _. Id i) h (plain-after i (unreserved (reserved i) w)) (lit< tt) s
+reads-back (Lookup n) h w s = number-back 0xd41 3 n Lookup (lit< tt) refl (ltb→lt _ _ (passed (ltb n (2 ^ 24)) (WideLookup 0) w)) s
+reads-back (Id i) h w s = number-back i 0 0 (λ _. Id i) h (plain-after i (unreserved (reserved i) _ w)) (lit< tt) s
 reads-back (I32 z) h w s = number-back 0xc 4 (ofZ w32 z) (λ n. I32 (toZ w32 n)) (lit< tt) refl (ofZ-fits w32 z h .fits) s ∙ ap (λ (y : ℤ). found (I32 y) 6) (toZ-ofZ w32 z h)
 reads-back (I64 z) h w s = number-back 0x317 8 (ofZ w64 z) (λ n. I64 (toZ w64 n)) (lit< tt) refl (ofZ-fits w64 z h .fits) s ∙ ap (λ (y : ℤ). found (I64 y) 10) (toZ-ofZ w64 z h)
 reads-back (Truth b) h w s = number-back 0xe 1 (bit b) (λ n. Truth (not (eqb n 0))) (lit< tt) refl (bit-lt b) s ∙ ap (λ (c : Bool). found (Truth c) 3) (bit-back b)
-reads-back (Quoted t) h w s = text-back 0xf Quoted t (lit< tt) refl w s ∙ ap (found (Quoted t)) (omega arith)
-reads-back (Unquoted t) h w s = text-back 0x17 Unquoted t (lit< tt) refl w s ∙ ap (found (Unquoted t)) (omega arith)
+reads-back (Quoted t) h w s = text-back 0xf Quoted t (lit< tt) refl (passed (ltb (length t) 65536) (LongString 0) w) s ∙ ap (found (Quoted t)) (omega arith)
+reads-back (Unquoted t) h w s = text-back 0x17 Unquoted t (lit< tt) refl (passed (ltb (length t) 65536) (LongString 0) w) s ∙ ap (found (Unquoted t)) (omega arith)
 reads-back (Rgb r g b none) h w s = id-back 0x243 (lit< tt) (body (Rgb r g b none) ++ s) ∙ ap (further 2) (rgb3-back r g b (h .0) (h .1) (h .2) s)
 reads-back (Rgb r g b (some a)) h w s = id-back 0x243 (lit< tt) (body (Rgb r g b (some a)) ++ s) ∙ ap (further 2) (rgb4-back r g b a (h .0) (h .1) (h .2) (h .3) s)

@@ -2,7 +2,7 @@
 use Prim.Native.Nat.{ℕ, zero, suc, _+_, _*_, _/_, _^_, _≤_, _<_}
 use native.Mathlib.Omega.{arith}
 use native.Mathlib.Nat.{pow-suc, mul-add, add-mul, mul-le-mul-left}
-use mathlib.Core.Path.{_≡_, refl, subst}
+use mathlib.Core.Path.{_≡_, refl}
 use mathlib.Core.Bool.{Bool, true, false, not}
 use mathlib.Core.Option.{Option, none, some}
 use mathlib.Core.List.{List, [], _∷_, _++_}
@@ -18,18 +18,17 @@ use mir.Facts.{sfits-widen}
 use Rattle.form.specs.Numbers.{pick, leBytes, Bytes, negated}
 use Rattle.form.specs.Values.{Value, Open, Close, Equal, U32, U64, F32, F64, Lookup, Id, I32, I64, Truth, Quoted, Unquoted, Rgb}
 use Rattle.form.specs.Table.{Payload, number, text, colour, table, entries, after}
-use Rattle.form.specs.Refusals.{Refusal, Eof, InvalidRgb, NotEncodable, NoRoom, BufferTooSmall, ReadFailed, BadPlace, TooLong, Fault, tooShort, badColour, refusalValue, refusalValues, refusalAt}
+use Rattle.form.specs.Refusals.{Refusal, Eof, InvalidRgb, LongString, WideLookup, ReservedId, NoRoom, BufferTooSmall, ReadFailed, BadPlace, TooLong, Fault, tooShort, badColour, refusalValue, refusalValues, refusalAt}
 use Rattle.form.specs.Readers.{Answer, found, refused, _giving_}
 use Rattle.form.specs.Reading.{num, string, payload, token}
-use Rattle.form.specs.Spelling.{bit, wide}
+use Rattle.form.specs.Spelling.{bit}
 use Rattle.form.specs.Saves.{step, walkF, walk, tokens, normal, LIMIT, Clean}
 use Rattle.form.specs.Writing.{written, fitted, firstRefusal, unless, normalise}
 use Rattle.form.specs.Keys.{Test, count, deeper, anyToken, isContainer, isStray, isKey, Counts, counts}
 use Rattle.form.specs.Ascii.{ascii, decimalF, decimal, signed, hex, hexOrDash, truth, spaced, line}
 use Rattle.form.specs.Listing.{name, alphaWords, shown, tokenLine, countWords, endLine, refusalWord, errorLine, linesOf, listing, list}
-use Rattle.form.proofs.Never.{never}
 use Rattle.form.proofs.LittleEndian.{drop-bytes}
-use Rattle.form.proofs.Found.{All, all-mapped, all-then, all-weaken, Number, num-found, Text, string-found, rgb-found, Within, token-in}
+use Rattle.form.proofs.Found.{All, all-mapped, all-then, all-weaken, Number, num-found, Text, string-found, rgb-found}
 use Rattle.form.proofs.Lookups.{InEach, by-table}
 use Rattle.form.proofs.Sound.{_&_, widen}
 use Rattle.form.proofs.Normal.{normal-length}
@@ -195,7 +194,9 @@ error-length d r h = simp length-append (omega (arith, decimal-short d (refusalV
     word-length : (r : Refusal) → length (ascii (refusalWord r)) ≤ 4
     word-length (Eof p) = omega arith
     word-length (InvalidRgb p) = omega arith
-    word-length (NotEncodable p) = omega arith
+    word-length (LongString p) = omega arith
+    word-length (WideLookup p) = omega arith
+    word-length (ReservedId p) = omega arith
     word-length (NoRoom n) = omega arith
     word-length (BufferTooSmall p) = omega arith
     word-length (ReadFailed p) = omega arith
@@ -285,40 +286,3 @@ normalise-fits room s b l h = rw (le-leb (length s) LIMIT l) (go (firstRefusal (
         let c : Clean s = record { limit = l; bytes = b; ends = k .0; narrow = k .1 } in
         rw (le-leb (length (normal s)) room (omega (arith, normal-length c)))
     go (some r) e = refl
-
--- ---- why a save is refused
-
--- for what it holds, at a place of it: never for its length, or for want of room
-abbrev pub OfSave : ℕ → Refusal → Type 0
-OfSave n (Eof p) = p ≤ n
-OfSave n (InvalidRgb p) = p ≤ n
-OfSave n (NotEncodable p) = p ≤ n
-OfSave n (NoRoom m) = ⊥
-OfSave n (BufferTooSmall p) = ⊥
-OfSave n (ReadFailed p) = ⊥
-OfSave n (BadPlace p) = ⊥
-OfSave n (TooLong m) = ⊥
-
-refused-there : (n k p : ℕ) (s : List ℕ) (r : Refusal) → p + length s ≤ n → firstRefusal (walkF k p s) ≡ some r → OfSave n r
-unfolding firstRefusal walkF step refusalAt
-refused-there n zero p s r h e = never (cc)
-refused-there n (suc k) p [] r h e = never (cc)
-refused-there n (suc k) p (b ∷ s) r h e =
-    go (token (b ∷ s)) (token-in (b ∷ s)) e (λ m q. refused-there n k (p + m) (drop m (b ∷ s)) r (rw length-drop (omega (arith, q .there))))
-  where
-    is : (x : Refusal) → some x ≡ some r → OfSave n x → OfSave n r
-    is x q o = let y : x ≡ r = cc in subst (OfSave n) y o
-
-    go : (a : Answer Value) → All (λ _ m. Within (b ∷ s) m) a → firstRefusal (step p a (λ m. walkF k (p + m) (drop m (b ∷ s)))) ≡ some r
-        → ((m : ℕ) → Within (b ∷ s) m → firstRefusal (walkF k (p + m) (drop m (b ∷ s))) ≡ some r → OfSave n r) → OfSave n r
-    go (found v m) w q ih = either (wide v) q
-      where
-        either : (t : Bool) → pick t (some (NotEncodable p)) (firstRefusal (walkF k (p + m) (drop m (b ∷ s)))) ≡ some r → OfSave n r
-        either true q = is (NotEncodable p) q (omega arith)
-        either false q = ih m w q
-    go (refused tooShort) w q ih = is (Eof p) q (omega arith)
-    go (refused badColour) w q ih = is (InvalidRgb p) q (omega arith)
-
-pub save-refusal : (s : List ℕ) (r : Refusal) → firstRefusal (walk s) ≡ some r → OfSave (length s) r
-unfolding walk
-save-refusal s r e = refused-there (length s) (length s) 0 s r (omega arith) e

@@ -9,12 +9,12 @@ use Rattle.form.specs.Numbers.{le, leBytes}
 use Rattle.form.specs.Values.{Value, Open, Lookup, Truth, kind}
 use Rattle.form.specs.Table.{table, entries, find, orPlain, after}
 use Rattle.form.specs.Ids.{OPEN, CLOSE, CHANNEL}
-use Rattle.form.specs.Refusals.{NotEncodable, BadPlace, refusalAt, refusalValue, refusalValues}
+use Rattle.form.specs.Refusals.{WideLookup, BadPlace, refusalAt, refusalValue, refusalValues}
 use Rattle.form.specs.Readers.{further, andThen, mapped, _followed-by_, _giving_, at}
 use Rattle.form.specs.Reading.{next, num, string, channel, rgb, payload, token}
 use Rattle.form.specs.Skipping.{stepped, passing, orStop, closed, turned, skipF, skipping, skipContainer}
 use Rattle.form.specs.Calls.{atStart, gives, refuses, within, ended, reads, optional, nexts, ifFound, peeks, landed, skips}
-use Rattle.form.specs.Spelling.{tag, body, spell, writable, wide}
+use Rattle.form.specs.Spelling.{tag, body, spell, reason}
 use Rattle.form.specs.Saves.{step, walkF, walk}
 use Rattle.form.specs.Writing.{unwritten, leaves, fitted, write, firstRefusal, unless, normalise}
 use Rattle.form.specs.Fast.{Step, fast, slow, Stepped, front, stepNumber, stepText, stepBy, fastStep}
@@ -41,11 +41,11 @@ unfolding le table entries find orPlain after refusalAt further andThen mapped _
 calls-hold = (refl, refl, refl)
 
 -- a wide lookup is refused at its position; what is written changes only the bytes written, and a refusal none
-pub writing-holds : (normalise 99 (0x01 ∷ 0x00 ∷ 0x3f ∷ 0x0d ∷ 0x00 ∷ 0x00 ∷ 0x00 ∷ 0x01 ∷ []) ≡ unwritten (NotEncodable 2))
+pub writing-holds : (normalise 99 (0x01 ∷ 0x00 ∷ 0x3f ∷ 0x0d ∷ 0x00 ∷ 0x00 ∷ 0x00 ∷ 0x01 ∷ []) ≡ unwritten (WideLookup 2))
     × (leaves (write 3 Open) (7 ∷ 8 ∷ 9 ∷ []) ≡ 0x03 ∷ 0x00 ∷ 9 ∷ [])
     × (leaves (write 1 Open) (7 ∷ []) ≡ 7 ∷ [])
 unfolding le leBytes kind table entries find orPlain after further andThen mapped _followed-by_ _giving_ next num payload token tag
-    body spell writable wide step walkF walk leaves fitted write firstRefusal unless normalise
+    body spell reason step walkF walk leaves fitted write firstRefusal unless normalise
 writing-holds = (refl, refl, refl)
 
 -- a lookup changes all the held bytes, a Bool one, which is the byte that stands there; under 16 bytes no step is fast, and nothing is changed

@@ -10,12 +10,14 @@ use lib.Dec.{T, ltb, lit<, lt→ltb}
 use mir.Syntax.{w32, w64}
 use mir.ValLaws.{toZ-fits}
 use Rattle.form.specs.Numbers.{leBytes, Bytes}
-use Rattle.form.specs.Values.{Value, Rgb, kind}
+use Rattle.form.specs.Values.{Value, Lookup, Rgb, kind}
 use Rattle.form.specs.Table.{Payload, number, text, colour, table, entries, after}
+use Rattle.form.specs.Refusals.{LongString}
 use Rattle.form.specs.Readers.{_giving_}
 use Rattle.form.specs.Reading.{num, string, payload, token}
-use Rattle.form.specs.Spelling.{tag, spelledChannel, spelledAlpha, body, spell, writable, wide, InType}
+use Rattle.form.specs.Spelling.{tag, spelledChannel, spelledAlpha, body, spell, reason, writable, wide, InType}
 use Rattle.form.proofs.LittleEndian.{drop-bytes}
+use Rattle.form.proofs.Reasons.{passes}
 use Rattle.form.proofs.Found.{All, all-mapped, all-then, all-weaken, Number, num-found, Text, string-found, rgb-found}
 use Rattle.form.proofs.Lookups.{InEach, by-table}
 
@@ -30,11 +32,11 @@ record Fits (s : List ℕ) (v : Value) (m : ℕ) : Type 0 where
 
 module _ (s : List ℕ) (h : Bytes s) where
   three-fits : (r g b : ℕ) → 22 ≤ length s → (Bytes s → (r < 2 ^ 32) × (g < 2 ^ 32) × (b < 2 ^ 32)) → Fits s (Rgb r g b none) 22
-  unfolding wide kind writable spell tag body leBytes spelledChannel spelledAlpha
+  unfolding wide kind reason writable spell tag body leBytes spelledChannel spelledAlpha
   three-fits r g b l k = let q = k h in record { there = l; good = ((q .0, q .1, q .2, tt), (λ t. tt), omega arith) }
 
   four-fits : (r g b a : ℕ) → 28 ≤ length s → (Bytes s → (r < 2 ^ 32) × (g < 2 ^ 32) × (b < 2 ^ 32) × (a < 2 ^ 32)) → Fits s (Rgb r g b (some a)) 28
-  unfolding wide kind writable spell tag body leBytes spelledChannel spelledAlpha
+  unfolding wide kind reason writable spell tag body leBytes spelledChannel spelledAlpha
   four-fits r g b a l k = let q = k h in record { there = l; good = ((q .0, q .1, q .2, q .3), (λ t. tt), omega arith) }
 
 -- ---- by the table
@@ -57,7 +59,7 @@ narrow-lookup false t = absurd t
 
 -- an entry, in the table's order, to a line
 entries-fine : InEach Fine entries
-unfolding entries table wide kind writable spell tag body leBytes
+unfolding entries table wide kind reason writable spell tag body leBytes
 entries-fine =
     (λ n h. (tt, (λ t. tt), omega arith))
     & (λ n h. (tt, (λ t. tt), omega arith))
@@ -69,20 +71,20 @@ entries-fine =
     & (λ n h. (toZ-fits w64 n (record { fits = h }), (λ t. tt), omega arith))
     & (λ n h. (h, (λ t. tt), omega arith))
     & (λ n h. (tt, (λ t. tt), omega arith))
-    & (λ t h l. (h, (λ _. lt→ltb _ _ l), omega arith))
-    & (λ t h l. (h, (λ _. lt→ltb _ _ l), omega arith))
+    & (λ t h l. (h, (λ _. passes (ltb (length t) 65536) (LongString 0) (lt→ltb _ _ l)), omega arith))
+    & (λ t h l. (h, (λ _. passes (ltb (length t) 65536) (LongString 0) (lt→ltb _ _ l)), omega arith))
     & (λ n h. (tt, (λ t. tt), omega arith))
     & tt
-    & (λ n h. (omega arith, narrow-lookup (ltb n (2 ^ 24)), omega arith))
-    & (λ n h. (omega arith, narrow-lookup (ltb n (2 ^ 24)), omega arith))
-    & (λ n h. (omega arith, narrow-lookup (ltb n (2 ^ 24)), omega arith))
-    & (λ n h. (omega arith, narrow-lookup (ltb n (2 ^ 24)), omega arith))
+    & (λ n h. (omega arith, narrow-lookup (writable (Lookup n)), omega arith))
+    & (λ n h. (omega arith, narrow-lookup (writable (Lookup n)), omega arith))
+    & (λ n h. (omega arith, narrow-lookup (writable (Lookup n)), omega arith))
+    & (λ n h. (omega arith, narrow-lookup (writable (Lookup n)), omega arith))
     & (λ i lo hi n h. (widen 8 (omega arith) h, (λ t. tt), omega arith))
     & (λ i lo hi n h. (mod-lt _ (lit< tt), (λ t. tt), omega arith))
     & tt
 
 after-fine : (i : ℕ) → i < 2 ^ 16 → Fine (after i)
-unfolding wide kind writable spell tag body leBytes
+unfolding wide kind reason writable spell tag body leBytes
 after-fine i h = by-table Fine entries-fine i (λ e n l. (h, (λ t. rw e tt), omega arith))
 
 payload-sound : (p : Payload) → Fine p → (s : List ℕ) → Bytes s → All (Fits s) (payload p s)

@@ -8,14 +8,14 @@ use lib.Dec.{lit≤}
 use native.Mathlib.Omega.{arith}
 use Rattle.form.specs.Numbers.{le, leBytes}
 use Rattle.form.specs.Values.{Value, F64, Lookup, Id, kind}
-use Rattle.form.specs.Table.{table, entries, find, orPlain, after}
+use Rattle.form.specs.Table.{table, entries, find, orPlain, after, reserved}
 use Rattle.form.specs.Ids.{OPEN, CLOSE, CHANNEL}
-use Rattle.form.specs.Refusals.{Eof, NotEncodable, NoRoom, refusalAt}
+use Rattle.form.specs.Refusals.{Eof, WideLookup, NoRoom, refusalAt}
 use Rattle.form.specs.Readers.{further, andThen, mapped, _followed-by_, _giving_, at}
 use Rattle.form.specs.Reading.{next, num, string, channel, rgb, payload, token}
 use Rattle.form.specs.Skipping.{stepped, passing, orStop, closed, turned, skipF, skipping, skipContainer, skipValue}
 use Rattle.form.specs.Calls.{Cursor, atStart, Call, gives, refuses, within, ended, reads, optional, nexts, landed, skips}
-use Rattle.form.specs.Spelling.{tag, body, spell, writable, wide}
+use Rattle.form.specs.Spelling.{tag, body, spell, reason, writable, wide}
 use Rattle.form.specs.Saves.{step, walkF, walk, values, whole, tokens, spellAll, normal, allNarrow, Clean}
 use Rattle.form.specs.Writing.{Output, written, unwritten, fitted, write, firstRefusal, unless, normalise}
 
@@ -93,8 +93,8 @@ specimens =
     ∷ (skip-value-after 0x000f 2 (0x0f ∷ 0x00 ∷ 0x02 ∷ 0x00 ∷ 0x61 ∷ []) ⇒ skip (eof 2))
     ∷ (normalises 5 (0x3f ∷ 0x0d ∷ 0xff ∷ 0xff ∷ 0xff ∷ 0x00 ∷ []) ⇒ output (written (0x41 ∷ 0x0d ∷ 0xff ∷ 0xff ∷ 0xff ∷ [])))
     ∷ (read-token (0x3f ∷ 0x0d ∷ 0x00 ∷ 0x00 ∷ 0x00 ∷ 0x01 ∷ []) ⇒ Lookup 16777216 to 6)
-    ∷ (writes 99 (Lookup 16777216) ⇒ output (unwritten (NotEncodable 0)))
-    ∷ (normalises 99 (0x3f ∷ 0x0d ∷ 0x00 ∷ 0x00 ∷ 0x00 ∷ 0x01 ∷ []) ⇒ output (unwritten (NotEncodable 0)))
+    ∷ (writes 99 (Lookup 16777216) ⇒ output (unwritten (WideLookup 0)))
+    ∷ (normalises 99 (0x3f ∷ 0x0d ∷ 0x00 ∷ 0x00 ∷ 0x00 ∷ 0x01 ∷ []) ⇒ output (unwritten (WideLookup 0)))
     ∷ (normalises 3 (0x0e ∷ 0x00 ∷ 0x02 ∷ []) ⇒ output (written (0x0e ∷ 0x00 ∷ 0x01 ∷ [])))
     ∷ (read-token (0x43 ∷ 0x02 ∷ 0x04 ∷ 0x00 ∷ []) ⇒ value (eof 0))
     ∷ (skip-container (0x43 ∷ 0x02 ∷ 0x04 ∷ 0x00 ∷ []) ⇒ skip (gives tt (cursor 4)))
@@ -106,10 +106,10 @@ specimens =
 pub specimens-hold : map (λ (s : Specimen). answer (s .ask)) specimens ≡ map (λ (s : Specimen). s .reply) specimens
 unfolding answer specimens save saveNormal _⇒_ le leBytes kind table entries find orPlain after OPEN CLOSE CHANNEL refusalAt further
     andThen mapped _followed-by_ _giving_ next num string channel rgb payload token at within ended reads optional nexts landed skips tag body spell
-    writable wide stepped passing orStop closed turned skipF skipping skipContainer skipValue step walkF walk values tokens spellAll normal fitted write
+    reserved reason stepped passing orStop closed turned skipF skipping skipContainer skipValue step walkF walk values tokens spellAll normal fitted write
     firstRefusal unless normalise
 specimens-hold = refl
 
 pub save-clean : Clean save
-unfolding save le kind table entries find orPlain after further andThen mapped _followed-by_ _giving_ next num payload token writable wide step walkF walk values whole tokens allNarrow
+unfolding save le kind table entries find orPlain after further andThen mapped _followed-by_ _giving_ next num payload token reason writable wide step walkF walk values whole tokens allNarrow
 save-clean = record { limit = lit≤ tt; bytes = omega arith; ends = tt; narrow = tt }

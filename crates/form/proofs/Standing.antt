@@ -19,7 +19,7 @@ use Rattle.form.specs.Ids.{OPEN, CLOSE, CHANNEL}
 use Rattle.form.specs.Refusals.{Fault}
 use Rattle.form.specs.Readers.{Reader, found, further, andThen, mapped, _followed-by_, _giving_, give, refuse}
 use Rattle.form.specs.Reading.{next, num, string, Channel, channel, withAlpha, ending, headed, judged, rgb, payload, token}
-use Rattle.form.specs.Spelling.{tag, spelledChannel, spelledAlpha, bit, body, spell, writable, wide}
+use Rattle.form.specs.Spelling.{tag, spelledChannel, spelledAlpha, bit, body, spell, reason, writable, wide}
 use Rattle.form.proofs.Never.{never}
 use Rattle.form.proofs.LittleEndian.{number-same, drop-bytes}
 use Rattle.form.proofs.Lookups.{plain-after}
@@ -249,7 +249,7 @@ abbrev pub kept4 : List ℕ
 kept4 = 0x000c ∷ 0x0014 ∷ []
 
 pub fours-kept : OfEach (Kept 4) kept4
-unfolding after find entries table orPlain spell tag body wide kind writable
+unfolding after find entries table orPlain spell tag body wide kind reason writable
 fours-kept =
     record { value = signed32; is = refl; keeps = λ n h. (rw (ofZ-toZ w32 n (record { fits = h })), refl) }
     & record { value = U32; is = refl; keeps = λ n h. (refl, refl) }
@@ -259,28 +259,29 @@ abbrev pub keptF32 : List ℕ
 keptF32 = 0x000d ∷ []
 
 pub floats-kept : OfEach (Kept 4) keptF32
-unfolding after find entries table orPlain spell tag body wide kind writable
+unfolding after find entries table orPlain spell tag body wide kind reason writable
 floats-kept = record { value = F32; is = refl; keeps = λ n h. (refl, refl) } & tt
 
 abbrev pub kept8 : List ℕ
 kept8 = 0x0167 ∷ 0x029c ∷ 0x0317 ∷ []
 
 pub eights-kept : OfEach (Kept 8) kept8
-unfolding after find entries table orPlain spell tag body wide kind writable
+unfolding after find entries table orPlain spell tag body wide kind reason writable
 eights-kept =
     record { value = F64; is = refl; keeps = λ n h. (refl, refl) }
     & record { value = U64; is = refl; keeps = λ n h. (refl, refl) }
     & record { value = signed64; is = refl; keeps = λ n h. (rw (ofZ-toZ w64 n (record { fits = h })), refl) }
     & tt
 
-narrow-enough : (n : ℕ) → n < 256 ^ 3 → not (ltb n (2 ^ 24)) ≡ false
+narrow-enough : (n : ℕ) → n < 256 ^ 3 → wide (Lookup n) ≡ false
+unfolding wide kind reason writable
 narrow-enough n h = rw (lt-ltb n (2 ^ 24) h)
 
 abbrev pub kept3 : List ℕ
 kept3 = 0x0d41 ∷ []
 
 pub threes-kept : OfEach (Kept 3) kept3
-unfolding after find entries table orPlain spell tag body wide kind writable
+unfolding after find entries table orPlain spell tag body wide kind reason writable
 threes-kept = record { value = Lookup; is = refl; keeps = λ n h. (refl, narrow-enough n h) } & tt
 
 -- of a truth, 0 and 1
@@ -292,14 +293,14 @@ abbrev pub keptTruths : List ℕ
 keptTruths = 0x000e ∷ []
 
 pub truths-kept : OfEach (KeptNumber 1 2) keptTruths
-unfolding after find entries table orPlain spell tag body wide kind writable
+unfolding after find entries table orPlain spell tag body wide kind reason writable
 truths-kept = record { value = nonzero; is = refl; keeps = λ n h. (rw (bit-same n h), refl) } & tt
 
 abbrev pub keptTexts : List ℕ
 keptTexts = 0x000f ∷ 0x0017 ∷ []
 
 pub texts-kept : OfEach KeptText keptTexts
-unfolding after find entries table orPlain spell tag body wide kind writable
+unfolding after find entries table orPlain spell tag body wide kind reason writable
 texts-kept =
     record { value = Quoted; is = refl; keeps = λ t. (refl, refl) }
     & record { value = Unquoted; is = refl; keeps = λ t. (refl, refl) }

@@ -1,11 +1,14 @@
 -- The ids that the definition names outside the table are ids of the table, with the payload that goes with them. Assumes nothing.
 use mathlib.Core.Path.{_≡_, refl}
 use mathlib.Core.Bool.{Bool, true, false, not}
+use mathlib.Core.Option.{none, some}
 use lib.Dec.{T}
+use Rattle.form.specs.Numbers.{pick}
 use Rattle.form.specs.Values.{Value, Open, Close, Equal, U32, U64, F32, F64, Lookup, Id, I32, I64, Truth, Quoted, Unquoted, Rgb, signed32, signed64, nonzero}
-use Rattle.form.specs.Table.{Payload, number, text, colour, nothing, table, entries, find, orPlain, after, reserved}
+use Rattle.form.specs.Table.{Payload, number, text, colour, nothing, table, entries, find, orPlain, after, isSome, reserved}
 use Rattle.form.specs.Ids.{OPEN, CLOSE, CHANNEL}
-use Rattle.form.specs.Spelling.{tag, writable}
+use Rattle.form.specs.Refusals.{Refusal}
+use Rattle.form.specs.Spelling.{tag, reason, writable}
 use Rattle.form.proofs.Lookups.{plain-after}
 
 -- the payload that a value is written with
@@ -26,13 +29,13 @@ writtenWith (Quoted t) = text Quoted
 writtenWith (Unquoted t) = text Unquoted
 writtenWith (Rgb r g b a) = colour
 
-pub unreserved : (b : Bool) → T (not b) → b ≡ false
-unreserved true t = absurd t
-unreserved false t = refl
+pub unreserved : (b : Bool) (r : Refusal) → T (not (isSome (pick b (some r) none))) → b ≡ false
+unreserved true r t = absurd t
+unreserved false r t = refl
 
 -- so the table says of the id that Token::write gives
 pub tag-in-table : (v : Value) → T (writable v) → after (tag v) ≡ writtenWith v
-unfolding tag writable after find entries table orPlain
+unfolding tag reason writable after find entries table orPlain
 tag-in-table Open w = refl
 tag-in-table Close w = refl
 tag-in-table Equal w = refl
@@ -41,7 +44,7 @@ tag-in-table (U64 n) w = refl
 tag-in-table (F32 n) w = refl
 tag-in-table (F64 n) w = refl
 tag-in-table (Lookup n) w = refl
-tag-in-table (Id i) w = plain-after i (unreserved (reserved i) w)
+tag-in-table (Id i) w = plain-after i (unreserved (reserved i) _ w)
 tag-in-table (I32 z) w = refl
 tag-in-table (I64 z) w = refl
 tag-in-table (Truth b) w = refl

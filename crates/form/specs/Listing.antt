@@ -7,7 +7,7 @@ use lib.ListN.{length}
 use lib.Dec.{leb}
 use Rattle.form.specs.Numbers.{pick, leBytes}
 use Rattle.form.specs.Values.{Value, Open, Close, Equal, U32, U64, F32, F64, Lookup, Id, I32, I64, Truth, Quoted, Unquoted, Rgb}
-use Rattle.form.specs.Refusals.{Refusal, Eof, InvalidRgb, NotEncodable, NoRoom, BufferTooSmall, ReadFailed, BadPlace, TooLong, refusalValue}
+use Rattle.form.specs.Refusals.{Refusal, Eof, InvalidRgb, LongString, WideLookup, ReservedId, NoRoom, BufferTooSmall, ReadFailed, BadPlace, TooLong, refusalValue}
 use Rattle.form.specs.Saves.{Walk, done, cut, then, walk, LIMIT}
 use Rattle.form.specs.Writing.{Output, unwritten, fitted}
 use Rattle.form.specs.Keys.{Counts, counts}
@@ -70,11 +70,13 @@ countWords c =
 unfoldable pub endLine : ℕ → Counts → List ℕ
 endLine n c = line (ascii "end") (decimal n ∷ countWords c)
 
--- the word for a refusal; NotEncodable is of a lookup. No other is shown, and the others have none
+-- the word for a refusal. No other is shown, and the others have none
 unfoldable pub refusalWord : Refusal → String
 refusalWord (Eof p) = "eof"
 refusalWord (InvalidRgb p) = "rgb"
-refusalWord (NotEncodable p) = "wide"
+refusalWord (LongString p) = ""
+refusalWord (WideLookup p) = "wide"
+refusalWord (ReservedId p) = ""
 refusalWord (NoRoom n) = ""
 refusalWord (BufferTooSmall p) = ""
 refusalWord (ReadFailed p) = ""

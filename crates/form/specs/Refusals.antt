@@ -9,7 +9,7 @@ pub data Refusal : Type 0 where
   -- the position
   Eof InvalidRgb : ℕ → Refusal
   -- the token's position; for the writer 0
-  NotEncodable : ℕ → Refusal
+  LongString WideLookup ReservedId : ℕ → Refusal
   -- the bytes needed
   NoRoom : ℕ → Refusal
   -- the position
@@ -23,7 +23,9 @@ pub data Refusal : Type 0 where
 unfoldable pub refusalNumber : Refusal → ℕ
 refusalNumber (Eof p) = 1
 refusalNumber (InvalidRgb p) = 2
-refusalNumber (NotEncodable p) = 3
+refusalNumber (LongString p) = 31
+refusalNumber (WideLookup p) = 32
+refusalNumber (ReservedId p) = 33
 refusalNumber (NoRoom n) = 4
 refusalNumber (BufferTooSmall p) = 5
 refusalNumber (ReadFailed p) = 6
@@ -34,7 +36,9 @@ refusalNumber (TooLong n) = 8
 unfoldable pub refusalValues : Refusal → List ℕ
 refusalValues (Eof p) = p ∷ []
 refusalValues (InvalidRgb p) = p ∷ []
-refusalValues (NotEncodable p) = p ∷ []
+refusalValues (LongString p) = p ∷ []
+refusalValues (WideLookup p) = p ∷ []
+refusalValues (ReservedId p) = p ∷ []
 refusalValues (NoRoom n) = n ∷ []
 refusalValues (BufferTooSmall p) = p ∷ []
 refusalValues (ReadFailed p) = p ∷ []
@@ -49,7 +53,9 @@ refusalValue r = getD (refusalValues r) 0 0
 unfoldable pub isEof : Refusal → Bool
 isEof (Eof p) = true
 isEof (InvalidRgb p) = false
-isEof (NotEncodable p) = false
+isEof (LongString p) = false
+isEof (WideLookup p) = false
+isEof (ReservedId p) = false
 isEof (NoRoom n) = false
 isEof (BufferTooSmall p) = false
 isEof (ReadFailed p) = false

@@ -7,10 +7,11 @@ use lib.ListN.{length}
 use lib.Dec.{ltb, eqb}
 use mir.Syntax.{w32, w64}
 use mir.Val.{ofZ, SFits}
-use Rattle.form.specs.Numbers.{leBytes, Bytes}
+use Rattle.form.specs.Numbers.{pick, leBytes, Bytes}
 use Rattle.form.specs.Values.{Value, Open, Close, Equal, U32, U64, F32, F64, Lookup, Id, I32, I64, Truth, Quoted, Unquoted, Rgb, kind}
-use Rattle.form.specs.Table.{reserved}
+use Rattle.form.specs.Table.{isSome, reserved}
 use Rattle.form.specs.Ids.{OPEN, CLOSE, CHANNEL}
+use Rattle.form.specs.Refusals.{Refusal, LongString, WideLookup, ReservedId}
 
 -- the id that Token::write gives. Where several ids have one payload, this is where one of them is chosen
 unfoldable pub tag : Value → ℕ
@@ -65,23 +66,28 @@ spell v = leBytes 2 (tag v) ++ body v
 
 -- ---- what can be written
 
--- all but a string over 65,535 bytes, a lookup of 2 ^ 24 or more, and a reserved id in Id
+-- why a value cannot be written, as the refusal of the token at position p: a string over 65,535 bytes, a lookup of 2 ^ 24 or more, a
+-- reserved id in Id
+unfoldable pub reason : ℕ → Value → Option Refusal
+reason p Open = none
+reason p Close = none
+reason p Equal = none
+reason p (U32 n) = none
+reason p (U64 n) = none
+reason p (F32 n) = none
+reason p (F64 n) = none
+reason p (Lookup n) = pick (ltb n (2 ^ 24)) none (some (WideLookup p))
+reason p (Id i) = pick (reserved i) (some (ReservedId p)) none
+reason p (I32 z) = none
+reason p (I64 z) = none
+reason p (Truth b) = none
+reason p (Quoted t) = pick (ltb (length t) 65536) none (some (LongString p))
+reason p (Unquoted t) = pick (ltb (length t) 65536) none (some (LongString p))
+reason p (Rgb r g b a) = none
+
+-- there is no reason why not
 unfoldable pub writable : Value → Bool
-writable Open = true
-writable Close = true
-writable Equal = true
-writable (U32 n) = true
-writable (U64 n) = true
-writable (F32 n) = true
-writable (F64 n) = true
-writable (Lookup n) = ltb n (2 ^ 24)
-writable (Id i) = not (reserved i)
-writable (I32 z) = true
-writable (I64 z) = true
-writable (Truth b) = true
-writable (Quoted t) = ltb (length t) 65536
-writable (Unquoted t) = ltb (length t) 65536
-writable (Rgb r g b a) = true
+writable v = not (isSome (reason 0 v))
 
 -- a lookup that cannot be written
 unfoldable pub wide : Value → Bool

@@ -129,9 +129,10 @@ orPlain i (some p) = p
 unfoldable pub after : ℕ → Payload
 after i = orPlain i (find entries i)
 
-abbrev pub isSome : Option Payload → Bool
+-- there is one
+abbrev pub isSome : {A : Type 0} → Option A → Bool
 isSome none = false
-isSome (some p) = true
+isSome (some a) = true
 
 -- the table has the id
 unfoldable pub reserved : ℕ → Bool

@@ -7,8 +7,8 @@ use lib.ListN.{length, drop}
 use lib.Dec.{leb}
 use Rattle.form.specs.Numbers.{pick}
 use Rattle.form.specs.Values.{Value}
-use Rattle.form.specs.Refusals.{Refusal, NotEncodable, NoRoom, TooLong}
-use Rattle.form.specs.Spelling.{spell, writable, wide}
+use Rattle.form.specs.Refusals.{Refusal, NoRoom, TooLong}
+use Rattle.form.specs.Spelling.{spell, reason}
 use Rattle.form.specs.Saves.{Walk, done, cut, then, walk, normal, LIMIT}
 
 -- bytes over the front of what stood there
@@ -43,19 +43,25 @@ pub record Follows (o : Output) (a : Outcome) (d d′ : List ℕ) : Type 0 where
 unfoldable pub fitted : ℕ → List ℕ → Output
 fitted room bs = pick (leb (length bs) room) (written bs) (unwritten (NoRoom (length bs)))
 
--- a token
-unfoldable pub write : ℕ → Value → Output
-write room v = pick (writable v) (fitted room (spell v)) (unwritten (NotEncodable 0))
-
--- the first refusal of a save in file order, a wide lookup being one
-unfoldable pub firstRefusal : Walk → Option Refusal
-firstRefusal done = none
-firstRefusal (cut r) = some r
-firstRefusal (then p n v w) = pick (wide v) (some (NotEncodable p)) (firstRefusal w)
-
+-- the same, unless it is refused
 unfoldable pub unless : Option Refusal → Output → Output
 unless none o = o
 unless (some r) o = unwritten r
+
+-- a token
+unfoldable pub write : ℕ → Value → Output
+write room v = unless (reason 0 v) (fitted room (spell v))
+
+-- the first of two refusals
+abbrev pub first : Option Refusal → Option Refusal → Option Refusal
+first none o = o
+first (some r) o = some r
+
+-- the first refusal of a save in file order: of reading, or of a token that cannot be written
+unfoldable pub firstRefusal : Walk → Option Refusal
+firstRefusal done = none
+firstRefusal (cut r) = some r
+firstRefusal (then p n v w) = first (reason p v) (firstRefusal w)
 
 -- a save in normal form
 unfoldable pub normalise : ℕ → List ℕ → Output

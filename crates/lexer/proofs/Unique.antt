@@ -61,7 +61,9 @@ new-one = same cursorOf lexerOf (λ r. refl)
 abbrev refusalBack : F.Refusal → Refusal
 refusalBack (F.Eof p) = Lexed (record { position = p; kind = Eof })
 refusalBack (F.InvalidRgb p) = Lexed (record { position = p; kind = InvalidRgb })
-refusalBack (F.NotEncodable p) = BadPlace p
+refusalBack (F.LongString p) = BadPlace p
+refusalBack (F.WideLookup p) = BadPlace p
+refusalBack (F.ReservedId p) = BadPlace p
 refusalBack (F.NoRoom n) = BadPlace n
 refusalBack (F.BufferTooSmall p) = BadPlace p
 refusalBack (F.ReadFailed p) = BadPlace p

@@ -16,7 +16,9 @@ abbrev listedBack : Outcome → Listed
 listedBack (wrote n) = Written n
 listedBack (declined (R.Eof p)) = TooLong p
 listedBack (declined (R.InvalidRgb p)) = TooLong p
-listedBack (declined (R.NotEncodable p)) = TooLong p
+listedBack (declined (R.LongString p)) = TooLong p
+listedBack (declined (R.WideLookup p)) = TooLong p
+listedBack (declined (R.ReservedId p)) = TooLong p
 listedBack (declined (R.NoRoom n)) = NoRoom n
 listedBack (declined (R.BufferTooSmall p)) = TooLong p
 listedBack (declined (R.ReadFailed p)) = TooLong p

@@ -6,13 +6,14 @@ use mathlib.Core.Option.{Option, none, some}
 use mathlib.Core.List.{List}
 use lib.ListN.{length}
 use Rattle.form.specs.Numbers.{Bytes, MAX}
-use Rattle.form.specs.Refusals.{Refusal, Eof, InvalidRgb, NotEncodable, NoRoom, BufferTooSmall, ReadFailed, BadPlace, TooLong, refusalValue, refusalValues}
+use Rattle.form.specs.Refusals.{Refusal, Eof, InvalidRgb, LongString, WideLookup, ReservedId, NoRoom, BufferTooSmall, ReadFailed, BadPlace, TooLong, refusalValue, refusalValues}
 use Rattle.form.specs.Saves.{walk, normal}
 use Rattle.form.specs.Writing.{Output, written, unwritten, wrote, declined, outcome, leaves, firstRefusal, unless, normalise}
 use Rattle.form.specs.Listing.{errorLine}
 use Rattle.form.proofs.Never.{never}
 use Rattle.form.proofs.Runs.{sets-front}
-use Rattle.form.proofs.Rooms.{normalise-fits, OfSave, save-refusal, error-length}
+use Rattle.form.proofs.Refusing.{OfSave, save-refusal}
+use Rattle.form.proofs.Rooms.{normalise-fits, error-length}
 use Rattle.form.specs.Put.{Put}
 use Rattle.normaliser.specs.Passes.{unbounded}
 use Rattle.normal.specs.Lines.{orLine, shown}
@@ -22,7 +23,9 @@ line-short : (n : ℕ) → n ≤ 8192 → (r : Refusal) → OfSave n r → lengt
 unfolding refusalValue refusalValues
 line-short n h (Eof p) o = error-length 4 (Eof p) (omega arith)
 line-short n h (InvalidRgb p) o = error-length 4 (InvalidRgb p) (omega arith)
-line-short n h (NotEncodable p) o = error-length 4 (NotEncodable p) (omega arith)
+line-short n h (LongString p) o = absurd o
+line-short n h (WideLookup p) o = error-length 4 (WideLookup p) (omega arith)
+line-short n h (ReservedId p) o = absurd o
 line-short n h (NoRoom m) o = absurd o
 line-short n h (BufferTooSmall p) o = absurd o
 line-short n h (ReadFailed p) o = absurd o
@@ -55,7 +58,7 @@ module _ (s d : List ℕ) (b : Bytes s) (h : (length s ≤ 8192) × (40960 ≤ l
       go none k q = never (cc)
       go (some x) k q =
           let y : some x ≡ some r = cc in
-          (rw (k ∙ y), save-refusal s r (k ∙ y))
+          (rw (k ∙ y), save-refusal s r b (k ∙ y))
 
   -- and its line is put
   pub lined : {d₁ d′ : List ℕ} {n : ℕ} (r : Refusal) → declined r ≡ outcome (normalise (length d) s) → d₁ ≡ leaves (normalise (length d) s) d

@@ -20,7 +20,7 @@ fn form(bytes: &[u8], out: &mut [u8]) -> usize
         Normalised::Written(n) => n,
         Normalised::Eof(p) => put_error(out, 0, b"eof", p as u64),
         Normalised::InvalidRgb(p) => put_error(out, 0, b"rgb", p as u64),
-        Normalised::NotEncodable(p) => put_error(out, 0, b"wide", p as u64),
+        Normalised::WideLookup(p) => put_error(out, 0, b"wide", p as u64),
         // Neither comes: there is room for every normal form.
         Normalised::NoRoom(n) => n,
         Normalised::TooLong(n) => n,

@@ -14,7 +14,7 @@ use Rattle.form.specs.Saves.{walk, normal, LIMIT}
 use Rattle.form.specs.Writing.{written, unwritten, wrote, outcome, leaves, Follows, fitted, firstRefusal, unless, normalise}
 use Rattle.form.proofs.Never.{never}
 use Rattle.normaliser.specs.declared.Normalised.{Normalised}
-use Rattle.normaliser.specs.declared.Normalised.the-variants.{Written, Eof, InvalidRgb, NotEncodable, NoRoom, TooLong}
+use Rattle.normaliser.specs.declared.Normalised.the-variants.{Written, Eof, InvalidRgb, WideLookup, NoRoom, TooLong}
 use Rattle.normaliser.proofs.Normalised.{the-type}
 use Rattle.normaliser.specs.Passes.{normalisedOutcome, unbounded}
 
@@ -60,6 +60,6 @@ module _ (room : ℕ) (s : List ℕ) (l : length s ≤ LIMIT) where
       go none (Written n) e q = absurd (⊎-elim (λ h. omega arith) (⊎-elim (λ h. omega arith) (⊎-elim (λ h. omega arith) (⊎-elim (λ h. omega arith) (λ h. omega arith)))) q)
       go none (Eof p) e q = never (cc)
       go none (InvalidRgb p) e q = never (cc)
-      go none (NotEncodable p) e q = never (cc)
+      go none (WideLookup p) e q = never (cc)
       go none (NoRoom n) e q = never (cc)
       go none (TooLong n) e q = never (cc)

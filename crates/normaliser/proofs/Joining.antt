@@ -2,14 +2,13 @@
 use Prim.Native.Nat.{ℕ, _+_, _-_, _≤_}
 use native.Mathlib.Omega.{arith}
 use mathlib.Core.Path.{_≡_, refl, sym, ap, _∙_}
-use mathlib.Core.Bool.{false}
 use mathlib.Core.Option.{Option, none, some}
 use mathlib.Core.List.{List, [], _++_, append-assoc}
 use lib.ListN.{length, take, drop, length-append}
 use lib.Seq.{take-add, drop-drop}
 use Rattle.form.specs.Values.{Value}
 use Rattle.form.specs.Refusals.{Refusal}
-use Rattle.form.specs.Spelling.{spell, wide}
+use Rattle.form.specs.Spelling.{spell, reason}
 use Rattle.form.specs.Saves.{Walk, then, walk, values, tokens, spellAll, normal}
 use Rattle.form.specs.Writing.{Output, written, unwritten, firstRefusal, unless}
 use Rattle.form.proofs.Runs.{part-length}
@@ -32,7 +31,7 @@ unfolding outputOf firstRefusal values spellAll unless
 rest-end s p h = rest-from s p ∙ ap outputOf (from-end s p h)
 
 -- a token that can be written stands before what is left after it
-pub output-then : (p n : ℕ) (v : Value) (w : Walk) → wide v ≡ false → outputOf (then p n v w) ≡ before (spell v) (outputOf w)
+pub output-then : (p n : ℕ) (v : Value) (w : Walk) → reason p v ≡ none → outputOf (then p n v w) ≡ before (spell v) (outputOf w)
 unfolding outputOf firstRefusal values spellAll unless before
 output-then p n v w h = rw h (go (firstRefusal w))
   where

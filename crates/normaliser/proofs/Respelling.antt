@@ -3,6 +3,7 @@ use Prim.Native.Nat.{ℕ, _≤_, _<_}
 use native.Mathlib.Omega.{arith}
 use mathlib.Core.Path.{_≡_, refl, sym, ap, _∙_}
 use mathlib.Core.Bool.{Bool, true, false}
+use mathlib.Core.Option.{none, some}
 use mathlib.Core.List.{List, [], _∷_}
 use mathlib.Core.Logic.{⊎-elim}
 use lib.ListN.{length, getD}
@@ -28,36 +29,39 @@ use Rattle.writer.proofs.Wrote.{the-type}
 use Rattle.writer.specs.Writes.{writeToken, wroteOutcome}
 use Rattle.writer.proofs.Fitting.{fitted-written, fitted-refused}
 use Rattle.normaliser.specs.declared.Normalised.{Normalised}
-use Rattle.normaliser.specs.declared.Normalised.the-variants.{NotEncodable}
+use Rattle.normaliser.specs.declared.Normalised.the-variants.{WideLookup}
 use Rattle.normaliser.specs.Stretches.{outputOf, Placed, Respelt, Stopped}
 use Rattle.normaliser.specs.Passes.{normalisedOutcome}
 use Rattle.normaliser.proofs.Joining.{rest-from}
-use Rattle.normaliser.proofs.Steps.{read-spells, token-writes}
+use Rattle.normaliser.proofs.Steps.{read-reason, read-spells, token-writes}
 use Rattle.normaliser.proofs.Passing.{part, back, appends}
 
 -- ---- the writer's answer for the bytes bs of a token, w telling whether it is a wide lookup
 
 abbrev judged : Bool → ℕ → List ℕ → Output
-judged w room bs = pick w (unwritten (R.NotEncodable 0)) (fitted room bs)
+judged w room bs = unless (pick w (some (R.WideLookup 0)) none) (fitted room bs)
 
 no-room-same : {m n : ℕ} → R.NoRoom m ≡ R.NoRoom n → m ≡ n
 no-room-same e = cc
 
 is-written : (w : Bool) (room : ℕ) (bs : List ℕ) {n : ℕ} → wrote n ≡ outcome (judged w room bs) → (w ≡ false) × (n ≡ length bs)
-unfolding outcome
+unfolding outcome unless
 is-written true room bs e = never (cc)
 is-written false room bs e = (refl, fitted-written room bs e .0)
 
 is-counted : (w : Bool) (room : ℕ) (bs : List ℕ) {n : ℕ} → declined (R.NoRoom n) ≡ outcome (judged w room bs) → (w ≡ false) × (n ≡ length bs)
-unfolding outcome
+unfolding outcome unless
 is-counted true room bs e = never (cc)
 is-counted false room bs e = (refl, no-room-same (fitted-refused room bs e .0))
 
-is-wide : (w : Bool) (room : ℕ) (bs : List ℕ) (x : Wrote) → wroteOutcome x ≡ outcome (judged w room bs) → OneOf (1 ∷ 3 ∷ []) (tagOf the-type x) → w ≡ true
+is-wide : (w : Bool) (room : ℕ) (bs : List ℕ) (x : Wrote) → wroteOutcome x ≡ outcome (judged w room bs) → OneOf (2 ∷ 1 ∷ 3 ∷ 5 ∷ []) (tagOf the-type x) → w ≡ true
+unfolding unless
 is-wide true room bs x e q = refl
-is-wide false room bs (W.Written n) e q = absurd (⊎-elim (λ h. omega arith) (λ h. omega arith) q)
-is-wide false room bs (W.NoRoom n) e q = absurd (⊎-elim (λ h. omega arith) (λ h. omega arith) q)
-is-wide false room bs (W.NotEncodable p) e q = let f : R.NotEncodable p ≡ R.NoRoom (length bs) = fitted-refused room bs e .0 in cc
+is-wide false room bs (W.Written n) e q = absurd (⊎-elim (λ h. omega arith) (⊎-elim (λ h. omega arith) (⊎-elim (λ h. omega arith) (λ h. omega arith))) q)
+is-wide false room bs (W.NoRoom n) e q = absurd (⊎-elim (λ h. omega arith) (⊎-elim (λ h. omega arith) (⊎-elim (λ h. omega arith) (λ h. omega arith))) q)
+is-wide false room bs (W.LongString p) e q = let f : R.LongString p ≡ R.NoRoom (length bs) = fitted-refused room bs e .0 in cc
+is-wide false room bs (W.WideLookup p) e q = let f : R.WideLookup p ≡ R.NoRoom (length bs) = fitted-refused room bs e .0 in cc
+is-wide false room bs (W.ReservedId p) e q = let f : R.ReservedId p ≡ R.NoRoom (length bs) = fitted-refused room bs e .0 in cc
 is-wide false room bs (W.BadPlace p) e q = let f : R.BadPlace p ≡ R.NoRoom (length bs) = fitted-refused room bs e .0 in cc
 
 -- ---- a token that was read
@@ -82,6 +86,7 @@ module _ (s : List ℕ) (b : (j : ℕ) → Fits w8 (getD s j 0)) (i : ℕ) {t : 
   -- it can be written, and its bytes are counted and put after so many others of the output d
   respelt : {d ys : List ℕ} {need at n : ℕ} {a : Outcome} → length d ≤ MAX → Placed need (length d) at → Follows (doing s d at t) a (part d at) ys
       → (wide v ≡ false) × (n ≡ length (spell v)) → Respelt s i next n d need (back d at ys)
+  unfolding unless
   respelt {d} {at = at} m p f k =
       let o : doing s d at t ≡ fitted (length (part d at)) (spell v) = writes (length (part d at)) ∙ ap (λ (w : Bool). judged w (length (part d at)) (spell v)) (k .0) in
       record {
@@ -99,12 +104,12 @@ module _ (s : List ℕ) (b : (j : ℕ) → Fits w8 (getD s j 0)) (i : ℕ) {t : 
     next-counted q = respelt m p f (is-counted _ _ _ (ap wroteOutcome (sym q) ∙ said f))
 
   -- or it cannot
-  pub next-wide : (y : Wrote) {d d′ : List ℕ} → Follows (writeToken (length d) s t) (wroteOutcome y) d d′ → OneOf (1 ∷ 3 ∷ []) (tagOf the-type y)
-      → Stopped s i (NotEncodable i)
+  pub next-wide : (y : Wrote) {d d′ : List ℕ} → Follows (writeToken (length d) s t) (wroteOutcome y) d d′ → OneOf (2 ∷ 1 ∷ 3 ∷ 5 ∷ []) (tagOf the-type y)
+      → Stopped s i (WideLookup i)
   unfolding outputOf firstRefusal unless
   next-wide y f q =
       let w : wide v ≡ true = is-wide _ _ _ y (said f) q in
-      record { why = R.NotEncodable i; is = rest-from s i ∙ ap outputOf (r .walks) ∙ rw w; answer = refl }
+      record { why = R.WideLookup i; is = rest-from s i ∙ ap outputOf (r .walks) ∙ rw (read-reason (bytes-all s b) r i, w); answer = refl }
 
 -- ---- a token that was refused
 

@@ -18,7 +18,7 @@ use Rattle.form.specs.Table as T
 use Rattle.form.specs.Table.{number, entries}
 use Rattle.form.specs.Readers.{Answer, Reader, found, refused, further, andThen, mapped, at}
 use Rattle.form.specs.Reading.{next as nextOf, num, string, rgb, payload, token}
-use Rattle.form.specs.Spelling.{spell, wide, writable}
+use Rattle.form.specs.Spelling.{spell, reason, wide, writable}
 use Rattle.form.proofs.LittleEndian.{drop-bytes, bytes-all}
 use Rattle.form.proofs.Places.{took, num-there, at-giving, by-id, string-then}
 use Rattle.form.proofs.Elsewhere.{eachId, listed, MissedAll, elsewhere}
@@ -132,7 +132,7 @@ module _ (s : List ℕ) (b : (j : ℕ) → Fits w8 (getD s j 0)) (p : ℕ) where
     value-spells {w} {x} {q} {f} k h n = token-spells (by-id s p e k ∙ at-giving (num w) f s next ∙ ap (mapped f) h) n
 
     pub lookup-arm : {w : ℕ} → T.after i ≡ number w F.Lookup → (r : Spelling) → Indexes (at (num w) s next) r → Spelt s p r
-    unfolding wide kind writable
+    unfolding wide kind reason writable
     lookup-arm k Otherwise h = tt
     lookup-arm k (Stands q) h = absurd h
     lookup-arm k (F64 x q) h = absurd h

@@ -2,20 +2,19 @@
 use Prim.Native.Nat.{ℕ, _+_, _-_, _≤_}
 use native.Mathlib.Omega.{arith}
 use mathlib.Core.Path.{_≡_, refl, ap, _∙_}
-use mathlib.Core.Bool.{Bool, true, false, not, _&&_}
-use mathlib.Core.Option.{none}
+use mathlib.Core.Bool.{false}
+use mathlib.Core.Option.{Option, none, some}
 use mathlib.Core.List.{List}
 use lib.ListN.{length, drop}
-use lib.Dec.{T, eqb}
 use borrow.Author.Tests.{le-leb}
 use Rattle.form.specs.Numbers.{pick, Bytes}
 use Rattle.form.specs.Values as F
-use Rattle.form.specs.Values.{kind}
 use Rattle.form.specs.Refusals as R
 use Rattle.form.specs.Readers.{found}
-use Rattle.form.specs.Spelling.{spell, writable, wide}
-use Rattle.form.specs.Writing.{Output, unwritten, fitted, write, unless}
+use Rattle.form.specs.Spelling.{spell, reason, wide}
+use Rattle.form.specs.Writing.{fitted, write, unless}
 use Rattle.form.proofs.LittleEndian.{drop-bytes}
+use Rattle.form.proofs.Reasons.{only-wide}
 use Rattle.form.proofs.Sound.{Sound, token-sound}
 use Rattle.form.proofs.TextsLast.{ownText, Ends}
 use Rattle.form.proofs.Walking.{from}
@@ -25,6 +24,10 @@ use Rattle.token.proofs.Walks.{Read, token-read, token-is}
 use Rattle.writer.specs.Writes.{misplaced, writeToken}
 use Rattle.normaliser.specs.Stretches.{outputOf, rest, Spells}
 use Rattle.normaliser.proofs.Joining.{output-then}
+
+-- the refusal of a wide lookup
+abbrev pub wideAt : ℕ → F.Value → Option R.Refusal
+wideAt p v = pick (wide v) (some (R.WideLookup p)) none
 
 -- a string that was read stands in the bytes
 read-placed : (s : List ℕ) (v : F.Value) (e : ℕ) → Ends s v e → e ≤ length s → misplaced s (tokenOf e v) ≡ none
@@ -45,38 +48,30 @@ read-placed s (F.Quoted t) e k h = rw (le-leb (e - length t + length t) (length 
 read-placed s (F.Unquoted t) e k h = rw (le-leb (e - length t + length t) (length s) (omega (arith, k .fits)))
 read-placed s (F.Rgb r g b a) e k h = refl
 
--- of what is read, a wide lookup alone cannot be written
-by-wide : (v : F.Value) → (T (not (wide v)) → T (writable v)) → (o : Output)
-    → pick (writable v) o (unwritten (R.NotEncodable 0)) ≡ pick (wide v) (unwritten (R.NotEncodable 0)) o
-unfolding wide
-by-wide v h o = go (eqb (kind v) (kind (F.Lookup 0))) (writable v) h
-  where
-    go : (k w : Bool) → (T (not (k && not w)) → T w) → pick w o (unwritten (R.NotEncodable 0)) ≡ pick (k && not w) (unwritten (R.NotEncodable 0)) o
-    go true true h = refl
-    go true false h = refl
-    go false true h = refl
-    go false false h = absurd (h tt)
-
 -- what `token` reads at a place is sound
 read-sound : {s : List ℕ} {p : ℕ} {v : F.Value} {n : ℕ} → Bytes s → Read s p v n → Sound (drop p s) v (n - p)
 read-sound {s} {p} b r = rw (r .reads) at (token-sound (drop p s) (drop-bytes p s b))
 
--- and is spelled as its value is, where it can be
+-- so that a wide lookup alone cannot be written
+pub read-reason : {s : List ℕ} {p : ℕ} {v : F.Value} {n : ℕ} → Bytes s → Read s p v n → (q : ℕ) → reason q v ≡ wideAt q v
+read-reason {v = v} b r q = only-wide q v (read-sound b r .can)
+
+-- and it is spelled as its value is, where it can be
 pub read-spells : {s : List ℕ} {p : ℕ} {v : F.Value} {n : ℕ} → Bytes s → Read s p v n → wide v ≡ false → Spells s p n (spell v)
 unfolding rest from
 read-spells {s} {p} {v} {n} b r w = record {
   on = omega (arith, r .on);
   there = r .there;
   short = read-sound b r .short;
-  is = ap outputOf (r .walks) ∙ output-then p (n - p) v (from s n) w;
+  is = ap outputOf (r .walks) ∙ output-then p (n - p) v (from s n) (read-reason b r p ∙ rw w);
 }
 
 -- what the writer does with a token that `read_token` answers
 pub token-writes : (s : List ℕ) (p : ℕ) {t : Token} {n : ℕ} → Bytes s → tokenAt s p ≡ found t n → (room : ℕ)
-    → writeToken room s t ≡ pick (wide (valueOf s t)) (unwritten (R.NotEncodable 0)) (fitted room (spell (valueOf s t)))
+    → writeToken room s t ≡ unless (wideAt 0 (valueOf s t)) (fitted room (spell (valueOf s t)))
 unfolding writeToken unless write
 token-writes s p {t} {n} b e room =
     let v = valueOf s t in
     let r : Read s p v n = token-read s p e in
     let k : misplaced s t ≡ none = ap (misplaced s) (token-is s p e) ∙ read-placed s v n (r .ends) (r .there) in
-    rw k (by-wide v (read-sound b r .can) (fitted room (spell v)))
+    rw (k, read-reason b r 0)

@@ -7,7 +7,7 @@ use Rattle.form.specs.Refusals as R
 use Rattle.form.specs.Writing.{Outcome, wrote, declined, Follows, normalise}
 use Rattle.form.proofs.Unique.{follows-one}
 use Rattle.normaliser.specs.declared.Normalised.{Normalised}
-use Rattle.normaliser.specs.declared.Normalised.the-variants.{Written, Eof, InvalidRgb, NotEncodable, NoRoom, TooLong}
+use Rattle.normaliser.specs.declared.Normalised.the-variants.{Written, Eof, InvalidRgb, WideLookup, NoRoom, TooLong}
 use Rattle.normaliser.specs.Passes.{normalisedOutcome}
 
 -- the normaliser answers no other refusal
@@ -15,7 +15,9 @@ abbrev normalisedBack : Outcome → Normalised
 normalisedBack (wrote n) = Written n
 normalisedBack (declined (R.Eof p)) = Eof p
 normalisedBack (declined (R.InvalidRgb p)) = InvalidRgb p
-normalisedBack (declined (R.NotEncodable p)) = NotEncodable p
+normalisedBack (declined (R.LongString p)) = TooLong p
+normalisedBack (declined (R.WideLookup p)) = WideLookup p
+normalisedBack (declined (R.ReservedId p)) = TooLong p
 normalisedBack (declined (R.NoRoom n)) = NoRoom n
 normalisedBack (declined (R.BufferTooSmall p)) = TooLong p
 normalisedBack (declined (R.ReadFailed p)) = TooLong p
@@ -26,7 +28,7 @@ normalised-back : (r : Normalised) → normalisedBack (normalisedOutcome r) ≡ 
 normalised-back (Written n) = refl
 normalised-back (Eof p) = refl
 normalised-back (InvalidRgb p) = refl
-normalised-back (NotEncodable p) = refl
+normalised-back (WideLookup p) = refl
 normalised-back (NoRoom n) = refl
 normalised-back (TooLong n) = refl
 

@@ -8,13 +8,13 @@ use Rattle.form.specs.Refusals as R
 use Rattle.form.specs.Saves.{walk, normal}
 use Rattle.form.specs.Writing.{Output, written, Outcome, wrote, declined, outcome, leaves, firstRefusal, unless}
 use Rattle.normaliser.specs.declared.Normalised.{Normalised}
-use Rattle.normaliser.specs.declared.Normalised.the-variants.{Written, Eof, InvalidRgb, NotEncodable, NoRoom, TooLong}
+use Rattle.normaliser.specs.declared.Normalised.the-variants.{Written, Eof, InvalidRgb, WideLookup, NoRoom, TooLong}
 
 abbrev pub normalisedOutcome : Normalised → Outcome
 normalisedOutcome (Written n) = wrote n
 normalisedOutcome (Eof p) = declined (R.Eof p)
 normalisedOutcome (InvalidRgb p) = declined (R.InvalidRgb p)
-normalisedOutcome (NotEncodable p) = declined (R.NotEncodable p)
+normalisedOutcome (WideLookup p) = declined (R.WideLookup p)
 normalisedOutcome (NoRoom n) = declined (R.NoRoom n)
 normalisedOutcome (TooLong n) = declined (R.TooLong n)
 

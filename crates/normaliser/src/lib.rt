@@ -22,7 +22,7 @@ pub enum Normalised {
     Written(usize),
     Eof(usize),
     InvalidRgb(usize),
-    NotEncodable(usize),
+    WideLookup(usize),
     NoRoom(usize),
     TooLong(usize),
 }
@@ -63,9 +63,9 @@ fn respell(bytes: &[u8], at: usize, out: &mut [u8], need: usize) -> Respelled
     match writer::write(bytes, t, &mut out[to..]) {
         Wrote::Written(n) => Respelled::To(next, n),
         Wrote::NoRoom(n) => Respelled::To(next, n),
-        // No text that was read is at a bad place.
-        Wrote::NotEncodable(_) | Wrote::BadPlace(_) => {
-            let why = Normalised::NotEncodable(at);
+        // No text that was read is long or at a bad place, and no id that was read as a plain one is reserved.
+        Wrote::WideLookup(_) | Wrote::LongString(_) | Wrote::ReservedId(_) | Wrote::BadPlace(_) => {
+            let why = Normalised::WideLookup(at);
             Respelled::Refused(why)
         }
     }

@@ -36,12 +36,14 @@ use Rattle.source.specs.declared.answers.TakenRgb.the-variants as C
 use Rattle.source.specs.Window.{Drawn, drawn, halted}
 use Rattle.source.specs.Answers.{refusalOf, ensuredAnswer, refilledAnswer, advancedAnswer, windowLenAnswer, takenAnswer, triedAnswer, idAnswer, peekedIdAnswer, rgbAnswer}
 
--- ---- refusals; the code has no NotEncodable, NoRoom and TooLong
+-- ---- refusals; the code has no LongString, WideLookup, ReservedId, NoRoom and TooLong
 
 abbrev errorOf : F.Refusal → ParserError
 errorOf (F.Eof p) = Eof p
 errorOf (F.InvalidRgb p) = InvalidRgb p
-errorOf (F.NotEncodable p) = Eof p
+errorOf (F.LongString p) = Eof p
+errorOf (F.WideLookup p) = Eof p
+errorOf (F.ReservedId p) = Eof p
 errorOf (F.NoRoom n) = Eof n
 errorOf (F.BufferTooSmall p) = BufferTooSmall p
 errorOf (F.ReadFailed p) = ReadFailed p

@@ -15,20 +15,23 @@ use Rattle.form.specs.Writing.{Output, written, unwritten, wrote, outcome, leav
 use Rattle.form.proofs.Never.{never}
 use Rattle.writer.specs.declared.Wrote.{Wrote}
 use Rattle.writer.proofs.Wrote.{the-type}
-use Rattle.writer.specs.declared.Wrote.the-variants.{Written, NotEncodable, NoRoom, BadPlace}
+use Rattle.writer.specs.declared.Wrote.the-variants.{Written, LongString, WideLookup, ReservedId, NoRoom, BadPlace}
 use Rattle.writer.specs.Writes.{wroteOutcome, Fitted}
 use Rattle.writer.specs.declared.layout.Layout.{Layout}
-use Rattle.writer.specs.Layouts.{spelledBy, misplacedBy, writableBy, writeBy}
+use Rattle.writer.specs.Layouts.{spelledBy, misplacedBy, reasonBy, writeBy}
 use Rattle.form.specs.Put.{Put}
 use Rattle.writer.proofs.Fitting.{fitted-written}
 use Rattle.form.proofs.Puts.{put-front}
 
 -- a refusal leaves the output unchanged
-pub refused-leaves : (o : Output) (r : Wrote) (d : List ℕ) → wroteOutcome r ≡ outcome o → OneOf (1 ∷ 2 ∷ 3 ∷ []) (tagOf the-type r) → leaves o d ≡ d
+pub refused-leaves : (o : Output) (r : Wrote) (d : List ℕ) → wroteOutcome r ≡ outcome o → OneOf (1 ∷ 2 ∷ 3 ∷ 4 ∷ 5 ∷ []) (tagOf the-type r) → leaves o d ≡ d
 unfolding outcome leaves
 refused-leaves (unwritten why) r d e q = refl
-refused-leaves (written bs) (Written n) d e q = absurd (⊎-elim (λ h. omega arith) (⊎-elim (λ h. omega arith) (λ h. omega arith)) q)
-refused-leaves (written bs) (NotEncodable p) d e q = cc
+refused-leaves (written bs) (Written n) d e q =
+    absurd (⊎-elim (λ h. omega arith) (⊎-elim (λ h. omega arith) (⊎-elim (λ h. omega arith) (⊎-elim (λ h. omega arith) (λ h. omega arith)))) q)
+refused-leaves (written bs) (LongString p) d e q = cc
+refused-leaves (written bs) (WideLookup p) d e q = cc
+refused-leaves (written bs) (ReservedId p) d e q = cc
 refused-leaves (written bs) (NoRoom n) d e q = cc
 refused-leaves (written bs) (BadPlace p) d e q = cc
 
@@ -41,20 +44,19 @@ written-fits room s p {r} {n} e q = placed (misplacedBy s p) (sym (ap wroteOutco
     bs : List ℕ
     bs = spelledBy s p
 
-    judged : (b : Bool) → wrote n ≡ outcome (pick b (fitted room bs) (unwritten (R.NotEncodable 0)))
-        → (pick b (fitted room bs) (unwritten (R.NotEncodable 0)) ≡ written bs) × (length bs ≤ room)
-    judged true e = let f = fitted-written room bs e in (f .2, f .1)
-    judged false e = never (cc)
+    judged : (o : Option R.Refusal) → wrote n ≡ outcome (unless o (fitted room bs)) → (unless o (fitted room bs) ≡ written bs) × (length bs ≤ room)
+    judged none e = let f = fitted-written room bs e in (f .2, f .1)
+    judged (some why) e = never (cc)
 
-    placed : (o : Option R.Refusal) → wrote n ≡ outcome (unless o (pick (writableBy p) (fitted room bs) (unwritten (R.NotEncodable 0))))
-        → (unless o (pick (writableBy p) (fitted room bs) (unwritten (R.NotEncodable 0))) ≡ written bs) × (length bs ≤ room)
-    placed none e = judged (writableBy p) e
+    placed : (o : Option R.Refusal) → wrote n ≡ outcome (unless o (unless (reasonBy p) (fitted room bs)))
+        → (unless o (unless (reasonBy p) (fitted room bs)) ≡ written bs) × (length bs ≤ room)
+    placed none e = judged (reasonBy p) e
     placed (some why) e = never (cc)
 
 -- ---- bytes that are judged by the room alone
 
 module _ (d bs : List ℕ) {m : ℕ} (r : Wrote) (l : length bs ≡ m) (f : Fitted m (length d) r) where
-  pub not-stored : OneOf (1 ∷ 2 ∷ 3 ∷ []) (tagOf the-type r) → Follows (fitted (length d) bs) (wroteOutcome r) d d
+  pub not-stored : OneOf (1 ∷ 2 ∷ 3 ∷ 4 ∷ 5 ∷ []) (tagOf the-type r) → Follows (fitted (length d) bs) (wroteOutcome r) d d
   not-stored q = record { answer = f bs l; output = sym (refused-leaves (fitted (length d) bs) r d (f bs l) q) }
 
   module _ {n : ℕ} (q : r ≡ Written n) where

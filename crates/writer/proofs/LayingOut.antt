@@ -13,9 +13,9 @@ use mir.Val.{ofZ}
 use Rattle.form.specs.Numbers.{pick, leBytes}
 use Rattle.form.specs.Values.{kind}
 use Rattle.form.specs.Table.{table, entries}
-use Rattle.form.specs.Spelling.{tag, body, spell, writable, bit}
-use Rattle.form.specs.Refusals.{NotEncodable, BadPlace}
-use Rattle.form.specs.Writing.{Output, unwritten, fitted, unless, write}
+use Rattle.form.specs.Spelling.{tag, body, spell, reason, bit}
+use Rattle.form.specs.Refusals.{LongString, BadPlace}
+use Rattle.form.specs.Writing.{Output, fitted, unless, write}
 use Rattle.form.proofs.Never.{never}
 use Rattle.form.proofs.Runs.{part-length}
 use Rattle.payload.specs.declared.answers.Text.{Text as Place}
@@ -27,7 +27,7 @@ use Rattle.token.specs.Texts.{placeOf}
 use Rattle.writer.specs.Writes.{misplaced, writeToken}
 use Rattle.writer.specs.declared.layout.Layout.{Layout}
 use Rattle.writer.specs.declared.layout.Layout.the-variants.{Number, Text, Lookup, Rgb, Id}
-use Rattle.writer.specs.Layouts.{idText, spelledBy, misplacedBy, writableBy, writeBy, LaysOut}
+use Rattle.writer.specs.Layouts.{idText, spelledBy, misplacedBy, reasonBy, writeBy, LaysOut}
 
 -- a text that lies within the bytes is as long as it says
 text-length : (s : List ℕ) (t : Place) → lies s t ≡ true → length (take (t .len) (drop (t .start) s)) ≡ t .len
@@ -55,7 +55,7 @@ text-same s t f = go (lies s t) refl
 
 -- a text of at most 65,535 bytes, under an id
 abbrev texted : ℕ → ℕ → List ℕ → ℕ → Output
-texted room i x n = pick (ltb n 65536) (fitted room (idText i x)) (unwritten (NotEncodable 0))
+texted room i x n = unless (pick (ltb n 65536) none (some (LongString 0))) (fitted room (idText i x))
 
 abbrev pub layoutFor : Token → Layout
 layoutFor T.Open = Number (record { 0 = 0x0003 }) 0 0
@@ -75,7 +75,7 @@ layoutFor (T.Lookup n) = Lookup n
 layoutFor (T.Id i) = Id i
 
 pub lays-out : (t : Token) → LaysOut t (layoutFor t)
-unfolding writeBy misplacedBy writableBy spelledBy writeToken misplaced valueOf write writable spell tag body leBytes unless kind entries table
+unfolding writeBy misplacedBy reasonBy spelledBy writeToken misplaced valueOf write reason spell tag body leBytes unless kind entries table
 lays-out T.Open room s = refl
 lays-out T.Close room s = refl
 lays-out T.Equal room s = refl

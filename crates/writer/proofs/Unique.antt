@@ -8,7 +8,7 @@ use Rattle.form.specs.Writing.{Outcome, wrote, declined, Follows, fitted}
 use Rattle.form.proofs.Unique.{follows-one}
 use Rattle.token.specs.declared.Token.{Token}
 use Rattle.writer.specs.declared.Wrote.{Wrote}
-use Rattle.writer.specs.declared.Wrote.the-variants.{Written, NotEncodable, NoRoom, BadPlace}
+use Rattle.writer.specs.declared.Wrote.the-variants.{Written, LongString, WideLookup, ReservedId, NoRoom, BadPlace}
 use Rattle.writer.specs.Layouts.{idNumber}
 use Rattle.writer.specs.Writes.{writeToken, wroteOutcome}
 
@@ -17,7 +17,9 @@ abbrev wroteBack : Outcome → Wrote
 wroteBack (wrote n) = Written n
 wroteBack (declined (R.Eof p)) = BadPlace p
 wroteBack (declined (R.InvalidRgb p)) = BadPlace p
-wroteBack (declined (R.NotEncodable p)) = NotEncodable p
+wroteBack (declined (R.LongString p)) = LongString p
+wroteBack (declined (R.WideLookup p)) = WideLookup p
+wroteBack (declined (R.ReservedId p)) = ReservedId p
 wroteBack (declined (R.NoRoom n)) = NoRoom n
 wroteBack (declined (R.BufferTooSmall p)) = BadPlace p
 wroteBack (declined (R.ReadFailed p)) = BadPlace p
@@ -26,7 +28,9 @@ wroteBack (declined (R.TooLong n)) = BadPlace n
 
 wrote-back : (r : Wrote) → wroteBack (wroteOutcome r) ≡ r
 wrote-back (Written n) = refl
-wrote-back (NotEncodable p) = refl
+wrote-back (LongString p) = refl
+wrote-back (WideLookup p) = refl
+wrote-back (ReservedId p) = refl
 wrote-back (NoRoom n) = refl
 wrote-back (BadPlace p) = refl
 

@@ -1,24 +1,24 @@
 -- No public promise goes through this file. The layout of a token, what it spells, and what writing it gives: the code's way to `writeToken`.
 use Prim.Native.Nat.{ℕ, _^_}
 use mathlib.Core.Path.{_≡_}
-use mathlib.Core.Bool.{Bool, true, not}
-use mathlib.Core.Option.{Option, none}
+use mathlib.Core.Option.{Option, none, some}
 use mathlib.Core.List.{List, _++_}
 use lib.ListN.{length}
 use lib.Dec.{ltb}
 use Rattle.form.specs.Numbers.{pick, leBytes}
 use Rattle.form.specs.Table.{reserved}
 use Rattle.form.specs.Ids.{OPEN, CLOSE}
-use Rattle.form.specs.Refusals.{Refusal, NotEncodable}
+use Rattle.form.specs.Refusals.{Refusal, LongString, WideLookup, ReservedId}
 use Rattle.form.specs.Spelling.{spelledChannel, spelledAlpha}
-use Rattle.form.specs.Writing.{Output, unwritten, fitted, unless}
+use Rattle.form.specs.Writing.{Output, outcome, fitted, unless}
 use Rattle.payload.specs.declared.answers.Alpha.{Alpha}
 use Rattle.payload.specs.declared.answers.Rgb.{Rgb as Colour}
 use Rattle.payload.specs.Answers.{alphaOf}
 use Rattle.token.specs.declared.Token.{Token}
 use Rattle.payload.specs.Texts.{partOf}
 use Rattle.token.specs.Texts.{placeOf}
-use Rattle.writer.specs.Writes.{writeToken}
+use Rattle.writer.specs.declared.Wrote.{Wrote}
+use Rattle.writer.specs.Writes.{writeToken, wroteOutcome}
 use Rattle.writer.specs.declared.layout.Layout.{Layout}
 use Rattle.writer.specs.declared.layout.Layout.the-variants.{Number, Text, Lookup, Rgb, Id}
 
@@ -54,16 +54,20 @@ misplacedBy s (Lookup n) = none
 misplacedBy s (Rgb c) = none
 misplacedBy s (Id i) = none
 
-unfoldable pub writableBy : Layout → Bool
-writableBy (Number i w n) = true
-writableBy (Text i t) = ltb (t .len) 65536
-writableBy (Lookup n) = ltb n (2 ^ 24)
-writableBy (Rgb c) = true
-writableBy (Id i) = not (reserved i)
+unfoldable pub reasonBy : Layout → Option Refusal
+reasonBy (Number i w n) = none
+reasonBy (Text i t) = pick (ltb (t .len) 65536) none (some (LongString 0))
+reasonBy (Lookup n) = pick (ltb n (2 ^ 24)) none (some (WideLookup 0))
+reasonBy (Rgb c) = none
+reasonBy (Id i) = pick (reserved i) (some (ReservedId 0)) none
 
 -- a layout into an output with so much room
 unfoldable pub writeBy : ℕ → List ℕ → Layout → Output
-writeBy room s p = unless (misplacedBy s p) (pick (writableBy p) (fitted room (spelledBy s p)) (unwritten (NotEncodable 0)))
+writeBy room s p = unless (misplacedBy s p) (unless (reasonBy p) (fitted room (spelledBy s p)))
+
+-- r is the answer for a layout that has no text, whatever the bytes are
+abbrev pub Judged : ℕ → Layout → Wrote → Type 0
+Judged room p r = (s : List ℕ) → wroteOutcome r ≡ outcome (writeBy room s p)
 
 -- a token has such a layout that writing it is writing the token
 abbrev pub LaysOut : Token → Layout → Type 0

@@ -11,7 +11,7 @@ use Rattle.token.specs.declared.Token.the-variants.{Open, Close, Equal, U32, U6
 use Rattle.token.specs.Tokens.{valueOf}
 use Rattle.token.specs.Texts.{placeOf}
 use Rattle.writer.specs.declared.Wrote.{Wrote}
-use Rattle.writer.specs.declared.Wrote.the-variants.{Written, NotEncodable, NoRoom, BadPlace}
+use Rattle.writer.specs.declared.Wrote.the-variants.{Written, LongString, WideLookup, ReservedId, NoRoom, BadPlace}
 
 -- the refusal of a string whose text does not lie within the bytes
 unfoldable pub misplaced : List ℕ → Token → Option R.Refusal
@@ -37,7 +37,9 @@ writeToken room s t = unless (misplaced s t) (write room (valueOf s t))
 
 abbrev pub wroteOutcome : Wrote → Outcome
 wroteOutcome (Written n) = wrote n
-wroteOutcome (NotEncodable p) = declined (R.NotEncodable p)
+wroteOutcome (LongString p) = declined (R.LongString p)
+wroteOutcome (WideLookup p) = declined (R.WideLookup p)
+wroteOutcome (ReservedId p) = declined (R.ReservedId p)
 wroteOutcome (NoRoom n) = declined (R.NoRoom n)
 wroteOutcome (BadPlace p) = declined (R.BadPlace p)
 

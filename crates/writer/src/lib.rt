@@ -7,7 +7,7 @@ ghost use mathlib.Core.List.{_++_};
 ghost use lib.ListN.{length};
 ghost use Rattle.form.specs.Numbers.{leBytes};
 ghost use Rattle.form.specs.Writing.{outcome, Follows, fitted};
-ghost use Rattle.writer.specs.Layouts.{writeBy};
+ghost use Rattle.writer.specs.Layouts.{writeBy, Judged};
 ghost use Rattle.writer.specs.Writes.{writeToken, wroteOutcome, Fitted};
 use crate::layout::Layout;
 use lexeme::LexemeId;
@@ -18,7 +18,9 @@ use token::Token;
 
 pub enum Wrote {
     Written(usize),
-    NotEncodable(usize),
+    LongString(usize),
+    WideLookup(usize),
+    ReservedId(usize),
     NoRoom(usize),
     BadPlace(usize),
 }
@@ -43,11 +45,30 @@ fn judge_text(bytes: &[u8], id: LexemeId, t: Text, room: usize) -> Wrote
         TextAnswer::Within => {
             let len = t.len;
             if 65535 < len {
-                return Wrote::NotEncodable(0);
+                return Wrote::LongString(0);
             }
             fit(4 + len, room)
         }
     }
+}
+
+fn judge_lookup(n: u32, room: usize) -> Wrote
+    ensures { λ r. ⌜ Judged room (Layout.Lookup n) r ⌝ }
+{
+    if 0xff_ffff < n {
+        return Wrote::WideLookup(0);
+    }
+    fit(5, room)
+}
+
+fn judge_id(x: u16, room: usize) -> Wrote
+    ensures { λ r. ⌜ Judged room (Layout.Id x) r ⌝ }
+{
+    let id = LexemeId::new(x);
+    if id.is_id() {
+        return fit(2, room);
+    }
+    Wrote::ReservedId(0)
 }
 
 // What a write of a token so laid out answers.
@@ -57,12 +78,7 @@ fn judge(bytes: &[u8], p: Layout, room: usize) -> Wrote
     match p {
         Layout::Number(_, width, _) => fit(2 + width as usize, room),
         Layout::Text(id, t) => judge_text(bytes, id, t, room),
-        Layout::Lookup(n) => {
-            if 0xff_ffff < n {
-                return Wrote::NotEncodable(0);
-            }
-            fit(5, room)
-        }
+        Layout::Lookup(n) => judge_lookup(n, room),
         Layout::Rgb(c) => {
             let a = c.a;
             match a {
@@ -70,13 +86,7 @@ fn judge(bytes: &[u8], p: Layout, room: usize) -> Wrote
                 Alpha::Given(_) => fit(30, room),
             }
         }
-        Layout::Id(x) => {
-            let id = LexemeId::new(x);
-            if id.is_id() {
-                return fit(2, room);
-            }
-            Wrote::NotEncodable(0)
-        }
+        Layout::Id(x) => judge_id(x, room),
     }
 }
 

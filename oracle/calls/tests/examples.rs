@@ -45,6 +45,17 @@ fn what_is_no_request() {
         "fast 00 -",
         "write 9 rgb 1 2",
         "write 9 u32 4294967296",
+        "write 9 quoted",
+        "write 9 quoted *",
+        "write 9 quoted *-1",
+        "write 9 quoted *4294967297",
+        "write 9 quoted 0 61",
+        "write 9 quoted 0 1 61 62",
+        "write 9 quoted 0 -1 61",
+        "write 9 f32 *4",
+        "normal 9 *18446744073709551616",
+        "dump *1",
+        "lex *1 0 read_id",
     ];
     let answers = ask(&lines.map(|line| format!("{line}\n")).concat());
     assert_eq!(answers, "bad request\n".repeat(lines.len()));

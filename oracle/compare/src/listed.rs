@@ -2,7 +2,7 @@
 
 use crate::run::Run;
 use crate::subjects::{Fast, Lex, Sequence, Text, Write};
-use protocol::{Call, Numbers, Op, Source, Token};
+use protocol::{Call, Numbers, Op, Source, Token, code};
 
 #[derive(Clone, Copy, Debug, PartialEq, Eq)]
 pub enum Listed {
@@ -42,6 +42,18 @@ impl Listed {
             Listed::NoRoom => "no-room",
             Listed::ShortWindow => "short-window",
             Listed::BadSourceState => "bad-source-state",
+        }
+    }
+
+    /// The one behind an answer that has an output.
+    pub fn of_writing(code: u32) -> Option<Listed> {
+        match code {
+            code::BAD_PLACE => Some(Listed::BadTextPlace),
+            code::LONG_STRING => Some(Listed::LongString),
+            code::WIDE_LOOKUP => Some(Listed::WideLookup),
+            code::RESERVED_ID => Some(Listed::ReservedId),
+            code::NO_ROOM => Some(Listed::NoRoom),
+            _ => None,
         }
     }
 

@@ -9,6 +9,7 @@ mod normal;
 mod record;
 mod run;
 mod shrink;
+mod spelling;
 mod stages;
 mod subjects;
 

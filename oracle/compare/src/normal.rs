@@ -1,5 +1,6 @@
 //! The normal form of a save, from the original's tokens.
 
+use crate::spelling::spelling;
 use protocol::{Answer, code};
 
 /// Each token of the original as the original spells it. The first refusal in file order; a token whose spelling does
@@ -8,11 +9,7 @@ pub fn normal_form(bytes: &[u8]) -> Result<Vec<u8>, Answer> {
     let (tokens, end) = original::tokens(bytes);
     let mut form = Vec::new();
     for (at, token) in tokens {
-        let spelling = original::spelling(&token);
-        if !original::reads_back(&token, &spelling) {
-            return Err(Answer::refused(code::NOT_ENCODABLE, 0, at));
-        }
-        form.extend(spelling);
+        form.extend(spelling(&token).map_err(|code| Answer::refused(code, 0, at))?);
     }
     match end.code {
         code::ANSWERED => Ok(form),

@@ -11,7 +11,7 @@ pub fn answer_request(request: &Request) -> Option<String> {
         Request::Lex { bytes, at, call } => Some(lex_line(bytes, *call, &calls::lex(bytes, *at, *call)?)),
         Request::Write { room, token } => {
             let mut out = vec![0; *room];
-            let count = write(token, &mut out)?;
+            let count = write(&token.token()?, &mut out)?;
             Some(output_line(&Answer::found(count, &[]), &out))
         }
         Request::Fast { held, window } => Some(stepped(*held, window)),

@@ -7,20 +7,25 @@ const EXAMPLES: &str = include_str!("../../calls/examples");
 /// Where the port refuses on purpose, and the original writes this, which is another token.
 const DIFFERENT: [(&str, &str); 2] = [("write 99 lookup 16777216", "ok 5 410d000000"), ("write 99 id 3", "ok 2 0300")];
 
-/// What the original does not answer: it cannot stand past its input or in a state that does not fit, only fails
-/// where there is no room, and has no dump and no normal form.
-const UNANSWERED: [&str; 7] = [
+/// What the original does not answer: it cannot stand past its input or in a state that does not fit, nor hold a text
+/// that is not there; it only fails where there is no room, and has no dump and no normal form.
+const UNANSWERED: [&str; 12] = [
     "lex 0102 9 read_id",
     "write 5 u32 7",
+    "write 0 id 3",
+    "write 9 quoted *65536",
+    "write 99 quoted 2 2 616263",
     "dump 0128010003004f0d05470d420d400d070400",
     "normal 37 0128010003004f0d05470d420d400d070400",
     "normal 36 0128010003004f0d05470d420d400d070400",
     "normal 99 3f0d00000001",
+    "normal 0 01283f0d00000001",
+    "normal 0 *2147483649",
     "source state 0102030405060708 8 6 100 aabb 0 f 0 : ensure 3",
 ];
 
 /// All the others.
-const ANSWERED: usize = 35;
+const ANSWERED: usize = 36;
 
 #[test]
 fn the_original_answers_as_the_page_says() {

@@ -3,8 +3,8 @@
 use crate::source::Window;
 use crate::{answer, is_id, kind, lex, list, next_token_fast, normalise, split, write};
 use protocol::{
-    Answer, Got, Op, Request, Source, Token, code, dump_line, fast_line, kind_line, lex_line, output_line, source_line,
-    split_line,
+    Answer, Got, Handed, Op, Request, Source, code, dump_line, fast_line, kind_line, lex_line, output_line,
+    source_line, split_line,
 };
 
 /// No answer fills more, and no output is made longer.
@@ -36,9 +36,8 @@ fn lending(room: usize, call: impl FnOnce(&mut [u8], &mut [u64]) -> u32) -> (Ans
     (answer, out)
 }
 
-fn written(room: usize, token: &Token) -> String {
-    let (kind, words) = token.words();
-    let (answer, out) = lending(room, |out, answer| write(token.text(), kind, &words, out, answer));
+fn written(room: usize, token: &Handed) -> String {
+    let (answer, out) = lending(room, |out, answer| write(&token.bytes, token.kind, &token.words, out, answer));
     output_line(&answer, &out)
 }
 

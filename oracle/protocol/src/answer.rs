@@ -7,13 +7,15 @@ pub mod code {
     pub const ANSWERED: u32 = 0;
     pub const EOF: u32 = 1;
     pub const INVALID_RGB: u32 = 2;
-    pub const NOT_ENCODABLE: u32 = 3;
     pub const NO_ROOM: u32 = 4;
     pub const BUFFER_TOO_SMALL: u32 = 5;
     pub const READ_FAILED: u32 = 6;
     pub const BAD_PLACE: u32 = 7;
     pub const TOO_LONG: u32 = 8;
     pub const NONE: u32 = 9;
+    pub const LONG_STRING: u32 = 31;
+    pub const WIDE_LOOKUP: u32 = 32;
+    pub const RESERVED_ID: u32 = 33;
     pub const SHORT_ANSWER: u32 = 100;
     /// Words that are no token, held bytes that are not eight, or a source's state of too few words or of no source.
     pub const BAD_ARGUMENT: u32 = 101;

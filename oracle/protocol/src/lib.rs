@@ -15,4 +15,4 @@ pub use hex::{hex, unhex};
 pub use request::Request;
 pub use show::{dump_line, fast_line, kind_line, lex_line, output_line, split_line};
 pub use source::{Got, Numbers, Op, STATE_WORDS, Source, State, source_line};
-pub use token::{Colour, KINDS, Token};
+pub use token::{Colour, Handed, KINDS, Token};

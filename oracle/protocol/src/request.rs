@@ -1,17 +1,19 @@
 //! The request lines.
 
-use crate::{Call, Colour, Numbers, Op, Source, Token, unhex};
+use crate::{Call, Colour, Handed, Numbers, Op, Source, Token, unhex};
 use std::str::FromStr;
 
 /// A longer one is not understood.
 const LONGEST_BUFFER: usize = 1 << 30;
+/// More are not understood.
+const MOST_ZEROS: usize = 1 << 32;
 
 #[derive(Clone, Debug, PartialEq, Eq)]
 pub enum Request {
     Kind(u16),
     Split { bytes: Vec<u8>, count: usize },
     Lex { bytes: Vec<u8>, at: usize, call: Call },
-    Write { room: usize, token: Token },
+    Write { room: usize, token: Handed },
     Dump { bytes: Vec<u8> },
     Normal { room: usize, bytes: Vec<u8> },
     Fast { held: [u8; 8], window: Vec<u8> },
@@ -67,6 +69,10 @@ impl<'a> Words<'a> {
         unhex(self.word()?)
     }
 
+    fn bytes_or_zeros(&mut self) -> Option<Vec<u8>> {
+        bytes_or_zeros(self.word()?)
+    }
+
     fn array<const N: usize>(&mut self) -> Option<[u8; N]> {
         self.bytes()?.try_into().ok()
     }
@@ -80,6 +86,14 @@ fn number<N: FromStr>(word: &str) -> Option<N> {
     if word.starts_with('+') { None } else { word.parse().ok() }
 }
 
+/// Of zeros only their number is written.
+fn bytes_or_zeros(word: &str) -> Option<Vec<u8>> {
+    match word.strip_prefix('*') {
+        Some(count) => Some(vec![0; number(count).filter(|count| *count <= MOST_ZEROS)?]),
+        None => unhex(word),
+    }
+}
+
 fn simple(words: &mut Words) -> Option<Request> {
     Some(match words.word()? {
         "kind" => Request::Kind(words.id()?),
@@ -87,7 +101,7 @@ fn simple(words: &mut Words) -> Option<Request> {
         "lex" => Request::Lex { bytes: words.bytes()?, at: words.number()?, call: call(words)? },
         "write" => Request::Write { room: words.number()?, token: token(words)? },
         "dump" => Request::Dump { bytes: words.bytes()? },
-        "normal" => Request::Normal { room: words.number()?, bytes: words.bytes()? },
+        "normal" => Request::Normal { room: words.number()?, bytes: words.bytes_or_zeros()? },
         "fast" => Request::Fast { held: words.array()?, window: words.bytes()? },
         _ => return None,
     })
@@ -101,8 +115,8 @@ fn call(words: &mut Words) -> Option<Call> {
     }
 }
 
-fn token(words: &mut Words) -> Option<Token> {
-    Some(match words.word()? {
+fn token(words: &mut Words) -> Option<Handed> {
+    let token = match words.word()? {
         "open" => Token::Open,
         "close" => Token::Close,
         "equal" => Token::Equal,
@@ -110,8 +124,8 @@ fn token(words: &mut Words) -> Option<Token> {
         "u64" => Token::U64(words.number()?),
         "i32" => Token::I32(words.number()?),
         "bool" => Token::Bool(words.number()?),
-        "quoted" => Token::Quoted(words.bytes()?),
-        "unquoted" => Token::Unquoted(words.bytes()?),
+        "quoted" => return text(words, Token::Quoted),
+        "unquoted" => return text(words, Token::Unquoted),
         "f32" => Token::F32(words.array()?),
         "f64" => Token::F64(words.array()?),
         "rgb" => Token::Rgb(colour(words)?),
@@ -119,7 +133,18 @@ fn token(words: &mut Words) -> Option<Token> {
         "lookup" => Token::Lookup(words.number()?),
         "id" => Token::Id(words.id()?),
         _ => return None,
-    })
+    };
+    Some(token.into())
+}
+
+/// All of the bytes, or the part of them that a start and a length before them name.
+fn text(words: &mut Words, token: fn(Vec<u8>) -> Token) -> Option<Handed> {
+    let first = words.word()?;
+    let Some(second) = words.word() else {
+        return Some(token(bytes_or_zeros(first)?).into());
+    };
+    let (start, length) = (number(first)?, number(second)?);
+    Some(Handed { words: [start, length, 0, 0, 0], ..token(words.bytes_or_zeros()?).into() })
 }
 
 fn colour(words: &mut Words) -> Option<Colour> {

@@ -66,7 +66,9 @@ pub(crate) fn refusal(code: u32) -> String {
     let names = [
         (code::EOF, "eof"),
         (code::INVALID_RGB, "rgb"),
-        (code::NOT_ENCODABLE, "notencodable"),
+        (code::LONG_STRING, "longstring"),
+        (code::WIDE_LOOKUP, "widelookup"),
+        (code::RESERVED_ID, "reservedid"),
         (code::NO_ROOM, "noroom"),
         (code::BUFFER_TOO_SMALL, "small"),
         (code::READ_FAILED, "read"),

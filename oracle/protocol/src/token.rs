@@ -74,11 +74,62 @@ impl Token {
         }
     }
 
+    /// The token of a kind and its words, a string's text taken from the bytes. Nothing where there is no such kind, the
+    /// words are no value of it, or the text does not lie within the bytes.
+    pub fn of_words(kind: u32, words: [u64; 5], bytes: &[u8]) -> Option<Token> {
+        let word = words[0];
+        let text = || bytes.get(word as usize..)?.get(..words[1] as usize).map(<[u8]>::to_vec);
+        Some(match kind {
+            0 => Token::Open,
+            1 => Token::Close,
+            2 => Token::Equal,
+            3 => Token::U32(word.try_into().ok()?),
+            4 => Token::U64(word),
+            5 => Token::I32(word.cast_signed().try_into().ok()?),
+            6 => Token::Bool([false, true].get(usize::try_from(word).ok()?).copied()?),
+            7 => Token::Quoted(text()?),
+            8 => Token::Unquoted(text()?),
+            9 => Token::F32(u32::try_from(word).ok()?.to_le_bytes()),
+            10 => Token::F64(word.to_le_bytes()),
+            11 => Token::Rgb(Colour::of_words(words)?),
+            12 => Token::I64(word.cast_signed()),
+            13 => Token::Lookup(word.try_into().ok()?),
+            14 => Token::Id(word.try_into().ok()?),
+            _ => return None,
+        })
+    }
+
     /// A string's text; of other tokens, nothing.
     pub fn text(&self) -> &[u8] {
         match self {
             Token::Quoted(text) | Token::Unquoted(text) => text,
             _ => &[],
         }
+    }
+}
+
+/// A token as a writer is handed it: the words of a string say where its text stands in the bytes.
+#[derive(Clone, Debug, PartialEq, Eq)]
+pub struct Handed {
+    pub kind: u32,
+    pub words: [u64; 5],
+    pub bytes: Vec<u8>,
+}
+
+impl Handed {
+    /// Nothing where a text does not lie within the bytes.
+    pub fn token(&self) -> Option<Token> {
+        Token::of_words(self.kind, self.words, &self.bytes)
+    }
+}
+
+impl From<Token> for Handed {
+    fn from(token: Token) -> Handed {
+        let (kind, words) = token.words();
+        let bytes = match token {
+            Token::Quoted(text) | Token::Unquoted(text) => text,
+            _ => Vec::new(),
+        };
+        Handed { kind, words, bytes }
     }
 }

@@ -10,28 +10,28 @@ use Rattle.form.specs.Refusals.{BadPlace}
 use Rattle.form.specs.Writing.{outcome, unless}
 use Rattle.payload.specs.Texts.{partOf}
 use Rattle.token.specs.Texts.{placeOf, placeAnswer}
-use Rattle.writer.specs.Layouts.{spelledBy, misplacedBy, writableBy, writeBy}
+use Rattle.writer.specs.Layouts.{spelledBy, misplacedBy, reasonBy, writeBy}
 use Rattle.writer.proofs.Sizes.{text-size}
 use Rattle.writer.proofs.LayingOut.{placed-length}
 use Rattle.writer.proofs.judge_text.Statement.{statement}
 use Rattle.writer.proofs.judge_text.Tie as tie
 
 returns : tie.Need-returns
-unfolding writeBy misplacedBy writableBy spelledBy unless outcome
+unfolding writeBy misplacedBy reasonBy spelledBy unless outcome
 returns c =
     let a = c .before .before .before .before .before .args in
     let q : placeOf (now (a .bytes)) (a .t) ≡ none = sym (c .before .before .before .text .ensures) ∙ ap placeAnswer (c .before .enum-told .given .1) in
     rw (q, le-ltb (a .t .len) 65536 (c .if1 .taken))
 
 returns-2 : tie.Need-returns-2
-unfolding writeBy misplacedBy writableBy spelledBy unless outcome
+unfolding writeBy misplacedBy reasonBy spelledBy unless outcome
 returns-2 c =
     let a = c .before .before .before .before .before .args in
     let q : placeOf (now (a .bytes)) (a .t) ≡ some (BadPlace (c .before .place .given .0 .0)) = sym (c .before .before .before .text .ensures) ∙ ap placeAnswer (c .before .place .given .1) in
     rw q
 
 returns-3 : tie.Need-returns-3
-unfolding writeBy misplacedBy writableBy spelledBy unless outcome
+unfolding writeBy misplacedBy reasonBy spelledBy unless outcome
 returns-3 c =
     let a = c .before .before .before .before .before .before .args in
     let s = now (a .bytes) in

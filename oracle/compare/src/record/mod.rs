@@ -48,8 +48,8 @@ fn header(seed: u64) -> String {
         "\
 # Answers of {origin}, written by: oracle/run --seed {seed} --record FILE
 # The original answered; the port was not asked. Where it cannot be asked, the answer is FORMAT.md's: it has no call 4, no place past its
-# input (code 7), no refusal of a token that would not read back (3) or for want of room (4), no words that are no token (101), and no
-# step over less than 16 bytes (call 32). Calls 30 and 31 are made from its tokens, in its own spelling and in FORMAT.md's words.
+# input (code 7), no refusal of a token that would not read back (32, 33) or for want of room (4), no words that are no token (101), and
+# no step over less than 16 bytes (call 32). Calls 30 and 31 are made from its tokens, in its own spelling and in FORMAT.md's words.
 # It has no state whose numbers do not fit (7) or whose sixth word is over 1 (101): of the calls from 33 on, these answers are FORMAT.md's.
 # CALL AT ARG CODE W0 W1 W2 W3 W4 W5 W6 W7 INPUT, and for the calls from 29 on INPUT/OUTPUT
 # AT: the cursor, a text's start, or how many bytes are lent. ARG: an id, a count, a text's length, or a kind. Either is 0 where the call

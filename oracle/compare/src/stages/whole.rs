@@ -2,10 +2,12 @@
 
 use crate::run::Run;
 use crate::subjects::{Fast, Form, Limit, Whole};
+use saves::ids::TEXTS;
 use saves::{Flavour, Plan, Rng, bad_colour, flip, narrow, random_bytes, random_ids, save};
 
 pub fn whole(run: &mut Run, rng: &mut Rng, cases: usize) {
     each_id(run);
+    wide_lookups(run);
     for flavour in Flavour::ALL {
         large(run, rng, flavour);
     }
@@ -23,6 +25,25 @@ fn each_id(run: &mut Run) {
     for id in 0..=u16::MAX {
         let [first, second] = id.to_le_bytes();
         one_save(run, &[first, second, 1, 0, 4, 0, first, second, 1, 0, 3, 0, first, second, 1, 0]);
+    }
+}
+
+/// Lookups about the widest that can be written, after and before texts of the longest that there are, another lookup, and
+/// tokens that cannot be read.
+fn wide_lookups(run: &mut Run) {
+    let long = [0xffu8; 65_535];
+    let texts = TEXTS.map(|id| [&id.to_le_bytes()[..], &[0xff, 0xff], &long].concat());
+    let mut others = vec![vec![], vec![1, 0x28], vec![0x5d, 0x0d, 0xff, 0xff, 0xff, 0xff], vec![0x3f, 0x0d, 0, 0, 0]];
+    others.push([&[0x43, 2][..], &[0; 22]].concat());
+    others.extend(texts);
+    for id in [0x0d3fu16, 0x0d46, 0x0d5d] {
+        for number in [(1u32 << 24) - 1, 1 << 24, (1 << 24) + 1, 0xff00_0000, u32::MAX] {
+            let lookup = [&id.to_le_bytes()[..], &number.to_le_bytes()].concat();
+            for other in &others {
+                one_save(run, &[&lookup[..], other].concat());
+                one_save(run, &[&other[..], &lookup].concat());
+            }
+        }
     }
 }
 

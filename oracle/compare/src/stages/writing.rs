@@ -107,7 +107,10 @@ fn places(run: &mut Run) {
     }
     let long = vec![7; 65_537];
     for (start, len) in [(0, 65_537), (1, 65_536), (2, 65_536), (65_537, 65_536), (2, 65_535), (3, 65_535)] {
-        run.check(&Write::new(&long, 7, &[start, len, 0, 0, 0], 65_540));
+        for room in [0, 4, 65_540] {
+            run.check(&Write::new(&long, 7, &[start, len, 0, 0, 0], room));
+            run.check(&Write::new(&long, 8, &[start, len, 0, 0, 0], room));
+        }
     }
 }
 

@@ -6,7 +6,7 @@ use crate::lent::{Lend, SeenLent, output};
 use crate::listed::Listed;
 use crate::normal::normal_form;
 use crate::shrink::{cuts, less, without, zeroed};
-use protocol::{Answer, code, dump_line, hex, output_line};
+use protocol::{Answer, dump_line, hex, output_line};
 use std::borrow::Cow;
 
 #[derive(Clone, Copy, Debug, PartialEq, Eq)]
@@ -97,11 +97,7 @@ impl Case for Whole<'_> {
         if self.form != Form::Normal {
             return None;
         }
-        match self.expected().seen.code {
-            code::NOT_ENCODABLE => Some(Listed::WideLookup),
-            code::NO_ROOM => Some(Listed::NoRoom),
-            _ => None,
-        }
+        Listed::of_writing(self.expected().seen.code)
     }
 
     fn smaller(&self) -> impl Iterator<Item = Self> {

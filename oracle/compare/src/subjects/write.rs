@@ -5,7 +5,8 @@ use crate::dump::spelled;
 use crate::lent::{Lend, SHORTENED, SeenLent, output, shortened};
 use crate::listed::Listed;
 use crate::shrink::{cuts, less, without};
-use protocol::{Answer, Colour, KINDS, Token, code, output_line};
+use crate::spelling::spelling;
+use protocol::{Answer, KINDS, Token, code, hex, output_line};
 use std::borrow::Cow;
 
 #[derive(Clone)]
@@ -24,13 +25,8 @@ enum Given {
     Token(Token),
 }
 
-/// What comes of it, by the original: a token is encodable if its spelling reads back.
-enum Outcome {
-    NoToken,
-    BadPlace(usize),
-    NotEncodable(Token),
-    Spelled(Vec<u8>),
-}
+/// The kinds whose words are a text's place.
+const STRINGS: [u32; 2] = [7, 8];
 
 impl<'a> Write<'a> {
     pub fn new(bytes: &'a [u8], kind: u32, words: &[u64], room: usize) -> Write<'a> {
@@ -47,25 +43,11 @@ impl<'a> Write<'a> {
         let Some(words) = self.words.first_chunk::<5>() else {
             return Given::NoToken;
         };
-        let (start, len) = (words[0] as usize, words[1] as usize);
-        let text = start.checked_add(len).and_then(|end| self.bytes.get(start..end));
-        let token = match (self.kind, text) {
-            (7 | 8, None) => return Given::BadPlace(start),
-            (7, Some(text)) => Some(Token::Quoted(text.to_vec())),
-            (8, Some(text)) => Some(Token::Unquoted(text.to_vec())),
-            _ => textless(self.kind, *words),
-        };
-        token.map_or(Given::NoToken, Given::Token)
-    }
-
-    fn outcome(&self) -> Outcome {
-        let token = match self.given() {
-            Given::NoToken => return Outcome::NoToken,
-            Given::BadPlace(start) => return Outcome::BadPlace(start),
-            Given::Token(token) => token,
-        };
-        let spelling = original::spelling(&token);
-        if original::reads_back(&token, &spelling) { Outcome::Spelled(spelling) } else { Outcome::NotEncodable(token) }
+        match Token::of_words(self.kind, *words, &self.bytes) {
+            Some(token) => Given::Token(token),
+            None if STRINGS.contains(&self.kind) => Given::BadPlace(words[0] as usize),
+            None => Given::NoToken,
+        }
     }
 
     fn plainer(&self) -> impl Iterator<Item = Self> {
@@ -77,26 +59,31 @@ impl<'a> Write<'a> {
             plainer
         })
     }
-}
 
-fn textless(kind: u32, words: [u64; 5]) -> Option<Token> {
-    let word = words[0];
-    Some(match kind {
-        0 => Token::Open,
-        1 => Token::Close,
-        2 => Token::Equal,
-        3 => Token::U32(word.try_into().ok()?),
-        4 => Token::U64(word),
-        5 => Token::I32(word.cast_signed().try_into().ok()?),
-        6 => Token::Bool([false, true].get(usize::try_from(word).ok()?).copied()?),
-        9 => Token::F32(u32::try_from(word).ok()?.to_le_bytes()),
-        10 => Token::F64(word.to_le_bytes()),
-        11 => Token::Rgb(Colour::of_words(words)?),
-        12 => Token::I64(word.cast_signed()),
-        13 => Token::Lookup(word.try_into().ok()?),
-        14 => Token::Id(word.try_into().ok()?),
-        _ => return None,
-    })
+    /// As a request has it, where it can be said in few words.
+    fn token_words(&self) -> Option<String> {
+        if STRINGS.contains(&self.kind) {
+            return self.string_words();
+        }
+        match self.given() {
+            Given::Token(token) if self.bytes.is_empty() && self.words == token.words().1 => Some(spelled(&token)),
+            _ => None,
+        }
+    }
+
+    fn string_words(&self) -> Option<String> {
+        let [start, len, 0, 0, 0] = self.words[..] else {
+            return None;
+        };
+        let bytes = match &self.bytes[..] {
+            few if few.len() < SHORTENED => hex(few),
+            zeros if zeros.iter().all(|byte| *byte == 0) => format!("*{}", zeros.len()),
+            _ => return None,
+        };
+        let all = (start, len) == (0, self.bytes.len() as u64);
+        let place = if all { String::new() } else { format!("{start} {len} ") };
+        Some(format!("{} {place}{bytes}", KINDS[self.kind as usize]))
+    }
 }
 
 impl Lend for Write<'_> {
@@ -117,11 +104,14 @@ impl Case for Write<'_> {
     }
 
     fn expected(&self) -> SeenLent {
-        match self.outcome() {
-            Outcome::NoToken => SeenLent::untouched(self, code::BAD_ARGUMENT),
-            Outcome::BadPlace(start) => SeenLent::answered(self, Answer::refused(code::BAD_PLACE, 0, start)),
-            Outcome::NotEncodable(_) => SeenLent::answered(self, Answer::refused(code::NOT_ENCODABLE, 0, 0)),
-            Outcome::Spelled(spelling) => SeenLent::whole(self, self.room, &spelling),
+        let refused = |code, value| SeenLent::answered(self, Answer::refused(code, 0, value));
+        match self.given() {
+            Given::NoToken => SeenLent::untouched(self, code::BAD_ARGUMENT),
+            Given::BadPlace(start) => refused(code::BAD_PLACE, start),
+            Given::Token(token) => match spelling(&token) {
+                Ok(spelling) => SeenLent::whole(self, self.room, &spelling),
+                Err(code) => refused(code, 0),
+            },
         }
     }
 
@@ -130,14 +120,7 @@ impl Case for Write<'_> {
     }
 
     fn listed(&self) -> Option<Listed> {
-        match self.outcome() {
-            Outcome::NoToken => None,
-            Outcome::BadPlace(_) => Some(Listed::BadTextPlace),
-            Outcome::NotEncodable(Token::Lookup(_)) => Some(Listed::WideLookup),
-            Outcome::NotEncodable(Token::Id(_)) => Some(Listed::ReservedId),
-            Outcome::NotEncodable(_) => Some(Listed::LongString),
-            Outcome::Spelled(spelling) => (self.room < spelling.len()).then_some(Listed::NoRoom),
-        }
+        Listed::of_writing(self.expected().seen.code)
     }
 
     fn original(&self) -> Option<String> {
@@ -160,15 +143,13 @@ impl Case for Write<'_> {
     }
 
     fn request(&self) -> String {
-        if let Given::Token(token) = self.given()
-            && self.bytes.len() < SHORTENED
-            && (&self.words[..], &self.bytes[..]) == (&token.words().1[..], token.text())
-        {
-            return format!("write {} {}", self.room, spelled(&token));
+        let room = self.room;
+        if let Some(token) = self.token_words() {
+            return format!("write {room} {token}");
         }
         let name = KINDS.get(self.kind as usize).copied().unwrap_or("no kind");
         let words: Vec<String> = self.words.iter().map(u64::to_string).collect();
-        let (room, kind, words) = (self.room, self.kind, words.join(" "));
+        let (kind, words) = (self.kind, words.join(" "));
         format!("write {room} {name}, as kind {kind}, words {words}, bytes {}", shortened(&self.bytes))
     }
 

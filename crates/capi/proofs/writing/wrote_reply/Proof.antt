@@ -19,6 +19,14 @@ returns-4 : tie.Need-returns-4
 unfolding refusalNumber refusalValues
 returns-4 c = rw (c .before .before .x4 .given .1) (c .coded3 .ensures)
 
+returns-5 : tie.Need-returns-5
+unfolding refusalNumber refusalValues
+returns-5 c = rw (c .before .before .x5 .given .1) (c .coded4 .ensures)
+
+returns-6 : tie.Need-returns-6
+unfolding refusalNumber refusalValues
+returns-6 c = rw (c .before .before .x6 .given .1) (c .coded5 .ensures)
+
 pub wrote-reply-spec : {M : Type 1} → statement M
 wrote-reply-spec =
     tie.close
@@ -31,7 +39,13 @@ wrote-reply-spec =
     (λ c κs. search needs)
     (λ c. search needs)
     (λ c κs. search needs)
+    (λ c. search needs)
+    (λ c κs. search needs)
+    (λ c. search needs)
+    (λ c κs. search needs)
     returns
     returns-2
     returns-3
-    returns-4)
+    returns-4
+    returns-5
+    returns-6)

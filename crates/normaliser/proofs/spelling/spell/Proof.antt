@@ -5,7 +5,7 @@ use mathlib.Core.List.{List, [], _∷_}
 use Prim.Native.Nat.{ℕ}
 use Rattle.form.specs.Values.{kind}
 use Rattle.form.specs.Table.{table, entries, find, orPlain, after}
-use Rattle.form.specs.Spelling.{tag, body, writable, wide}
+use Rattle.form.specs.Spelling.{tag, body, reason, writable, wide}
 use Rattle.form.proofs.Standing.{KeptNumber, KeptText, KeptColour, of-one, Kept, kept4, fours-kept, keptF32, floats-kept, kept8, eights-kept, keptTruths, truths-kept, keptTexts, texts-kept, keptColours, colours-kept}
 use Rattle.payload.specs.Answers.{idAnswer}
 use Rattle.payload.proofs.LetElse.{gotOf}
@@ -20,13 +20,13 @@ returns : tie.Need-returns
 returns c = tt
 
 returns-2 : tie.Need-returns-2
-unfolding after orPlain find entries table tag body wide kind writable
+unfolding after orPlain find entries table tag body wide kind reason writable
 returns-2 c =
     let a = c .before .before .before .before .before .before .before .args in
     alone-arm (a .bytes .now) (c .before .before .before .before .before .before .shared-slice-known .given) (a .at) (gotOf idAnswer (c .before .before .before .before .before .read-id .ensures) (c .before .before .before .read .given .1)) (alone-below arms refl _ (c .before .match2 .rest) (c .if1 .taken))
 
 returns-3 : tie.Need-returns-3
-unfolding after orPlain find entries table tag body wide kind writable
+unfolding after orPlain find entries table tag body wide kind reason writable
 returns-3 c =
     let a = c .before .before .before .before .before .before .before .before .args in
     alone-arm (a .bytes .now) (c .before .before .before .before .before .before .before .shared-slice-known .given) (a .at) (gotOf idAnswer (c .before .before .before .before .before .before .read-id .ensures) (c .before .before .before .before .read .given .1)) (alone-above arms refl _ (c .before .before .match2 .rest) (c .if2 .taken))
