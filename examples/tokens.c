@@ -1,7 +1,8 @@
 /*
- * Prints the tokens of a save, and writes its normal form. C99 and C++ alike; examples/check compiles it as both, and runs it.
+ * Prints the tokens of a save, and writes its normal form and its shortest spelling. C99 and C++ alike; examples/check compiles it as both,
+ * and runs it.
  *
- *     tokens SAVE [NORMAL-FORM]
+ *     tokens SAVE [NORMAL-FORM [SHORTEST]]
  *
  * A line for each token: its position, its kind, its value. A text stands in quotes, with the bytes that are not printable ASCII, and quotes
  * and backslashes, as \xNN. A float is its bytes in hex, the lowest first. The exit status is 0 if all is well; 1 if the save is refused, and
@@ -168,7 +169,7 @@ static int print_tokens(const struct save *save) {
     return status;
 }
 
-/* ---- the normal form */
+/* ---- the save, spelled anew */
 
 static int write_file(const char *name, const uint8_t *bytes, size_t len) {
     FILE *file = fopen(name, "wb");
@@ -182,10 +183,14 @@ static int write_file(const char *name, const uint8_t *bytes, size_t len) {
     return WELL;
 }
 
-/* The first call has no room, and says how many bytes are needed: never more than five times the save. */
-static int write_normal(const struct save *save, const char *name) {
+/* stivlaheim_normalise or stivlaheim_shorten */
+typedef uint32_t spelling(const uint8_t *bytes, size_t bytes_len, uint8_t *out, size_t out_len, uint64_t *answer, size_t answer_len);
+
+/* The first call has no room, and says how many bytes are needed: in normal form never more than five times the save, and in its shortest
+ * spelling never more than the save. */
+static int write_spelled(const struct save *save, const char *name, spelling *spell) {
     uint64_t answer[STIVLAHEIM_WORDS];
-    uint32_t code = stivlaheim_normalise(save->bytes, save->len, NULL, 0, answer, STIVLAHEIM_WORDS);
+    uint32_t code = spell(save->bytes, save->len, NULL, 0, answer, STIVLAHEIM_WORDS);
     uint8_t *out = NULL;
     if (code == STIVLAHEIM_NO_ROOM) {
         size_t need = (size_t)answer[1];
@@ -193,7 +198,7 @@ static int write_normal(const struct save *save, const char *name) {
         if (out == NULL) {
             return failed("cannot write", name);
         }
-        code = stivlaheim_normalise(save->bytes, save->len, out, need, answer, STIVLAHEIM_WORDS);
+        code = spell(save->bytes, save->len, out, need, answer, STIVLAHEIM_WORDS);
     }
     int status = code == STIVLAHEIM_ANSWERED ? write_file(name, out, (size_t)answer[0]) : refused(save, code, answer[1]);
     free(out);
@@ -201,8 +206,8 @@ static int write_normal(const struct save *save, const char *name) {
 }
 
 int main(int count, char **arguments) {
-    if (count < 2 || count > 3) {
-        fputs("tokens SAVE [NORMAL-FORM]\n", stderr);
+    if (count < 2 || count > 4) {
+        fputs("tokens SAVE [NORMAL-FORM [SHORTEST]]\n", stderr);
         return FAILED;
     }
     struct save save = {arguments[1], NULL, 0};
@@ -210,8 +215,11 @@ int main(int count, char **arguments) {
     if (status == WELL) {
         status = print_tokens(&save);
     }
-    if (status == WELL && count == 3) {
-        status = write_normal(&save, arguments[2]);
+    if (status == WELL && count > 2) {
+        status = write_spelled(&save, arguments[2], stivlaheim_normalise);
+    }
+    if (status == WELL && count > 3) {
+        status = write_spelled(&save, arguments[3], stivlaheim_shorten);
     }
     free(save.bytes);
     return status;

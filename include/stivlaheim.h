@@ -4,7 +4,8 @@
  *     rt staticlib capi                                            proves the library and all below it, and makes target/staticlib/libcapi.a
  *     cc -Iinclude program.c target/staticlib/libcapi.a            compiles a program with it
  *
- * examples/tokens.c is such a program: it prints a save's tokens with their texts, and writes its normal form.
+ * examples/tokens.c is such a program: it prints a save's tokens with their texts, and writes its normal form and its
+ * shortest spelling.
  *
  * A slice is two parameters: a pointer to its first element, and the number of its elements.
  *
@@ -57,7 +58,7 @@ enum {
     STIVLAHEIM_READ_FAILED = 6,      /* the position */
     STIVLAHEIM_BAD_PLACE = 7,        /* the place given */
     STIVLAHEIM_TOO_LONG = 8,         /* the input's length */
-    STIVLAHEIM_LONG_STRING = 31,     /* the token's position; of stivlaheim_write 0 */
+    STIVLAHEIM_LONG_STRING = 31,     /* the token's position; of a token that is written alone 0 */
     STIVLAHEIM_WIDE_LOOKUP = 32,     /* the same */
     STIVLAHEIM_RESERVED_ID = 33,     /* the same */
     STIVLAHEIM_NONE = 9,             /* no refusal: there is none */
@@ -193,13 +194,22 @@ uint32_t stivlaheim_count_tokens(const uint8_t *bytes, size_t bytes_len, uint64_
 uint32_t stivlaheim_write(const uint8_t *bytes, size_t bytes_len, uint32_t kind, const uint64_t *words, size_t words_len, uint8_t *out,
                           size_t out_len, uint64_t *answer, size_t answer_len);
 
-/* The longest save that the next two take, 2^31 bytes. No other call has a limit. */
+/* The same in the token's shortest spelling: the fewest bytes that read to it. Every lookup has one, so that WIDE_LOOKUP is never returned. */
+uint32_t stivlaheim_write_shortest(const uint8_t *bytes, size_t bytes_len, uint32_t kind, const uint64_t *words, size_t words_len,
+                                   uint8_t *out, size_t out_len, uint64_t *answer, size_t answer_len);
+
+/* The longest save that the next three take, 2^31 bytes. No other call has a limit. */
 #define STIVLAHEIM_LIMIT UINT64_C(2147483648)
 
 /* A save in normal form. TOO_LONG over 2,147,483,648 bytes, before anything is read; then the first refusal in the order of the file: EOF,
  * INVALID_RGB, or WIDE_LOOKUP with the position of a lookup that needs more than three bytes; then NO_ROOM with the bytes needed. An
  * output of five times the save's length always suffices; one of no bytes tells what is needed. */
 uint32_t stivlaheim_normalise(const uint8_t *bytes, size_t bytes_len, uint8_t *out, size_t out_len, uint64_t *answer, size_t answer_len);
+
+/* A save with each token in its shortest spelling. TOO_LONG over 2,147,483,648 bytes, before anything is read; then the first refusal in the
+ * order of the file, EOF or INVALID_RGB; then NO_ROOM with the bytes needed. An output of the save's length always suffices; one of no
+ * bytes tells what is needed. What two saves are compared by is the normal form. */
+uint32_t stivlaheim_shorten(const uint8_t *bytes, size_t bytes_len, uint8_t *out, size_t out_len, uint64_t *answer, size_t answer_len);
 
 /* The text that the program dump prints for a save. TOO_LONG over 2,147,483,648 bytes, before anything is read; NO_ROOM with the bytes
  * needed. A token that cannot be read refuses nothing: the text says so. */

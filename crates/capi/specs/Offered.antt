@@ -10,12 +10,11 @@ use lib.Signed.{mag}
 use mir.Syntax.{w64}
 use mir.Val.{toZ}
 use Rattle.form.specs.Numbers.{pick}
-use Rattle.form.specs.Writing.{outcome}
+use Rattle.form.specs.Writing.{Output, outcome}
 use Rattle.payload.specs.declared.answers.Alpha.{Alpha}
 use Rattle.payload.specs.declared.answers.Alpha.the-variants.{Absent, Given as GivenAlpha}
 use Rattle.token.specs.declared.Token.{Token}
 use Rattle.token.specs.declared.Token.the-variants as T
-use Rattle.writer.specs.Writes.{writeToken}
 use Rattle.capi.specs.Replies.{SHORT_ANSWER, BAD_ARGUMENT, Returned, returned, into}
 use Rattle.capi.specs.Outputs.{outcomeReply, leftBy}
 use Rattle.capi.specs.declared.offered.Offered.{Offered}
@@ -64,13 +63,13 @@ kindToken kind ws = getD (kindTokens (getD ws 0 0) (getD ws 1 0) (getD ws 2 0) (
 unfoldable pub offeredToken : ℕ → List ℕ → Option Token
 offeredToken kind ws = pick (leb 5 (length ws)) (kindToken kind ws) none
 
--- ---- writing it: the number returned with the answer list, and the output
+-- ---- writing it, where w gives the output: the number returned with the answer list, and what the output holds
 
 -- where there is no token nothing is changed
-unfoldable pub writeReturns : ℕ → List ℕ → List ℕ → Option Token → Returned
-writeReturns room s l (some t) = into l (outcomeReply (outcome (writeToken room s t)))
-writeReturns room s l none = pick (leb 8 (length l)) (returned BAD_ARGUMENT l) (returned SHORT_ANSWER l)
+unfoldable pub writeReturns : (ℕ → List ℕ → Token → Output) → ℕ → List ℕ → List ℕ → Option Token → Returned
+writeReturns w room s l (some t) = into l (outcomeReply (outcome (w room s t)))
+writeReturns w room s l none = pick (leb 8 (length l)) (returned BAD_ARGUMENT l) (returned SHORT_ANSWER l)
 
-unfoldable pub writeLeaves : List ℕ → List ℕ → Option Token → List ℕ → List ℕ
-writeLeaves s l (some t) out = leftBy l (writeToken (length out) s t) out
-writeLeaves s l none out = out
+unfoldable pub writeLeaves : (ℕ → List ℕ → Token → Output) → List ℕ → List ℕ → Option Token → List ℕ → List ℕ
+writeLeaves w s l (some t) out = leftBy l (w (length out) s t) out
+writeLeaves w s l none out = out

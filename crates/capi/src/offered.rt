@@ -5,7 +5,7 @@ ghost use lib.ListN.{length};
 ghost use mir.Syntax.{w64};
 ghost use mir.Val.{toZ};
 ghost use Rattle.token.specs.declared.Token.the-variants as T;
-ghost use Rattle.capi.specs.Offered.{offeredOf, numberToken, smallToken, boolToken, colourToken, kindToken};
+ghost use Rattle.capi.specs.Offered.{offeredOf, numberToken, smallToken, boolToken, colourToken, kindToken, offeredToken};
 use payload::Alpha;
 use payload::Rgb;
 use payload::Text;
@@ -125,7 +125,7 @@ fn text(start: u64, len: u64) -> Text
     }
 }
 
-pub(crate) fn of_words(kind: u32, words: &[u64]) -> Offered
+fn of_words(kind: u32, words: &[u64]) -> Offered
     requires { ⌜ 5 ≤ length (now words) ⌝ }
     ensures { λ r. ⌜ offeredOf r ≡ kindToken kind (now (words .entry)) ⌝ }
 {
@@ -148,4 +148,14 @@ pub(crate) fn of_words(kind: u32, words: &[u64]) -> Offered
         14 => id_token(x),
         _ => Offered::Nothing,
     }
+}
+
+// Five words are asked for, whatever the kind.
+pub(crate) fn given(kind: u32, words: &[u64]) -> Offered
+    ensures { λ r. ⌜ offeredOf r ≡ offeredToken kind (now (words .entry)) ⌝ }
+{
+    if words.len() < 5 {
+        return Offered::Nothing;
+    }
+    of_words(kind, words)
 }

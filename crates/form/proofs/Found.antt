@@ -74,6 +74,7 @@ next-found n s = all-pick (Next n s) (leb n (length s)) _ _ (λ l. record { coun
 
 -- a number of w bytes
 pub record Number (w : ℕ) (s : List ℕ) (x n : ℕ) : Type 0 where
+  pub is : x ≡ le (take w s)
   pub count : n ≡ w
   pub there : w ≤ length s
   pub small : Bytes s → x < 256 ^ w
@@ -82,7 +83,7 @@ pub num-found : (w : ℕ) (s : List ℕ) → All (Number w s) (num w s)
 unfolding num _giving_
 num-found w s =
     all-mapped (Next w s) (Number w s) le (next w s) (next-found w s)
-    (λ t n k. record { count = k .count; there = k .there; small = λ h. rw (k .is) (le-take-lt w s h) })
+    (λ t n k. record { is = ap le (k .is); count = k .count; there = k .there; small = λ h. rw (k .is) (le-take-lt w s h) })
 
 -- a text after its length
 pub record Text (s t : List ℕ) (m : ℕ) : Type 0 where

@@ -25,6 +25,17 @@ InEach P [] = Unit {0}
 InEach P (ks is p ∷ es) = P p × InEach P es
 InEach P (lo to hi is p ∷ es) = ((i : ℕ) → lo ≤ i → i ≤ hi → P (p i)) × InEach P es
 
+-- P holds of each id of the entries, with what they say of it
+abbrev pub InEachAt : (ℕ → Payload → Type 0) → List Entry → Type 0
+InEachAt P [] = Unit {0}
+InEachAt P (ks is p ∷ es) = ((i : ℕ) → T (among i ks) → P i p) × InEachAt P es
+InEachAt P (lo to hi is p ∷ es) = ((i : ℕ) → lo ≤ i → i ≤ hi → P i (p i)) × InEachAt P es
+
+each-at : (P : Payload → Type 0) (es : List Entry) → InEach P es → InEachAt (λ _ p. P p) es
+each-at P [] h = tt
+each-at P (ks is p ∷ es) h = ((λ i t. h .0), each-at P es (h .1))
+each-at P (lo to hi is p ∷ es) h = (h .0, each-at P es (h .1))
+
 abbrev InSome : (Payload → Type 0) → Option Payload → Type 0
 InSome P none = Unit {0}
 InSome P (some p) = P p
@@ -33,23 +44,29 @@ in-pick : (P : Payload → Type 0) (b : Bool) (x y : Option Payload) → (T b �
 in-pick P true x y f g = f tt
 in-pick P false x y f g = g
 
-in-found : (P : Payload → Type 0) (es : List Entry) → InEach P es → (i : ℕ) → InSome P (find es i)
+in-found-at : (P : ℕ → Payload → Type 0) (es : List Entry) → InEachAt P es → (i : ℕ) → InSome (P i) (find es i)
 unfolding find
-in-found P [] h i = tt
-in-found P (ks is p ∷ es) h i = in-pick P (among i ks) (some p) (find es i) (λ t. h .0) (in-found P es (h .1) i)
-in-found P (lo to hi is p ∷ es) h i =
-    in-pick P (leb lo i && leb i hi) (some (p i)) (find es i)
+in-found-at P [] h i = tt
+in-found-at P (ks is p ∷ es) h i = in-pick (P i) (among i ks) (some p) (find es i) (h .0 i) (in-found-at P es (h .1) i)
+in-found-at P (lo to hi is p ∷ es) h i =
+    in-pick (P i) (leb lo i && leb i hi) (some (p i)) (find es i)
     (λ t. h .0 i (leb→le _ _ (and-l (leb lo i) (leb i hi) t)) (leb→le _ _ (and-r (leb lo i) (leb i hi) t)))
-    (in-found P es (h .1) i)
+    (in-found-at P es (h .1) i)
+
+in-found : (P : Payload → Type 0) (es : List Entry) → InEach P es → (i : ℕ) → InSome P (find es i)
+in-found P es h i = in-found-at (λ _ p. P p) es (each-at P es h) i
 
 -- what holds of each entry, and of an id that the table does not have, holds of what follows any id
-pub by-table : (P : Payload → Type 0) → InEach P entries → (i : ℕ) → (reserved i ≡ false → P (nothing (Id i))) → P (after i)
+pub by-table-at : (P : ℕ → Payload → Type 0) → InEachAt P entries → (i : ℕ) → (reserved i ≡ false → P i (nothing (Id i))) → P i (after i)
 unfolding after reserved orPlain
-by-table P h i d = go (find entries i) (in-found P entries h i) d
+by-table-at P h i d = go (find entries i) (in-found-at P entries h i) d
   where
-    go : (o : Option Payload) → InSome P o → (isSome o ≡ false → P (nothing (Id i))) → P (orPlain i o)
+    go : (o : Option Payload) → InSome (P i) o → (isSome o ≡ false → P i (nothing (Id i))) → P i (orPlain i o)
     go none h d = d refl
     go (some p) h d = h
+
+pub by-table : (P : Payload → Type 0) → InEach P entries → (i : ℕ) → (reserved i ≡ false → P (nothing (Id i))) → P (after i)
+by-table P h i d = by-table-at (λ _ p. P p) (each-at P entries h) i d
 
 -- the same, where it matters whether the table has the id
 pub reserved-after : (P : Bool → Payload → Type 0) → InEach (P true) entries → (i : ℕ) → P false (nothing (Id i)) → P (reserved i) (after i)

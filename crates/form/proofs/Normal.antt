@@ -19,48 +19,28 @@ use Rattle.form.specs.Spelling.{tag, spelledChannel, spelledAlpha, body,
 use Rattle.form.specs.Saves.{Walk, step, walkF, walk, values, whole, tokens, spellAll, normal, allNarrow, LIMIT, Clean}
 use Rattle.form.proofs.LittleEndian.{drop-bytes, append-bytes, bytes-bytes}
 use Rattle.form.proofs.ReadsBack.{reads-back}
-use Rattle.form.proofs.Found.{All}
+use Rattle.form.proofs.Found.{All, all-weaken}
+use Rattle.form.proofs.SpelledAnew.{Each, back, Fair, kept}
 use Rattle.form.proofs.Sound.{Sound, token-sound}
 
--- each value can be spelled
-abbrev pub Enc : List Value → Type 0
-Enc [] = Unit {0}
-Enc (v ∷ vs) = InType v × T (writable v) × Enc vs
+-- a value that can be spelled
+abbrev pub Spellable : Value → Type 0
+Spellable v = InType v × T (writable v)
 
--- ---- what is spelled reads back
-
-pub back : (vs : List Value) → Enc vs → (k at : ℕ) → length (spellAll vs) ≤ k
-    → (values (walkF k at (spellAll vs)) ≡ vs) × T (whole (walkF k at (spellAll vs)))
-unfolding spellAll spell leBytes walkF values whole step
-back [] e zero at h = (refl, tt)
-back [] e (suc k) at h = (refl, tt)
-back (v ∷ vs) e zero at h = absurd (omega arith)
-back (v ∷ vs) e (suc k) at h =
-    let r = back vs (e .2) k (at + length (spell v)) (omega (arith, length-append (spell v) (spellAll vs))) in
-    rw (reads-back v (e .0) (e .1) (spellAll vs), drop-append-seam (spell v) (spellAll vs)) (ap (λ (ws : List Value). v ∷ ws) (r .0), r .1)
+abbrev Narrow : Value → Type 0
+Narrow v = T (not (wide v))
 
 -- ---- what is read can be spelled
 
-abbrev Kept : List ℕ → Walk → Type 0
-Kept s w = T (whole w) → T (allNarrow (values w)) → Enc (values w) × (length (spellAll (values w)) ≤ 5 * length s)
+narrow-each : (vs : List Value) → T (allNarrow vs) → Each Narrow vs
+unfolding allNarrow
+narrow-each [] t = tt
+narrow-each (v ∷ vs) t = (and-l (not (wide v)) (allNarrow vs) t, narrow-each vs (and-r (not (wide v)) (allNarrow vs) t))
 
-kept-step : (at : ℕ) (s : List ℕ) (a : Answer Value) (go : ℕ → Walk) → All (Sound s) a → ((n : ℕ) → 2 ≤ n → Kept (drop n s) (go n)) → Kept s (step at a go)
-unfolding step values whole allNarrow spellAll
-kept-step at s (found v n) go r ih w t =
-    let k = ih n (r .some) w (and-r (not (wide v)) (allNarrow (values (go n))) t) in (
-      (r .typed, r .can (and-l (not (wide v)) (allNarrow (values (go n))) t), k .0),
-      omega (arith, length-append (spell v) (spellAll (values (go n))), length-drop n s, r),
-    )
-kept-step at s (refused why) go r ih w t = absurd w
-
-pub kept : (k at : ℕ) (s : List ℕ) → length s ≤ k → Bytes s → Kept s (walkF k at s)
-unfolding walkF values spellAll
-kept zero at [] h b w t = (tt, zero-le)
-kept zero at (x ∷ s) h b w t = absurd (omega arith)
-kept (suc k) at [] h b w t = (tt, zero-le)
-kept (suc k) at (x ∷ s) h b w t =
-    kept-step at (x ∷ s) (token (x ∷ s)) (λ n. walkF k (at + n) (drop n (x ∷ s))) (token-sound (x ∷ s) b)
-    (λ n l. kept k (at + n) (drop n (x ∷ s)) (rw length-drop (omega arith)) (drop-bytes n (x ∷ s) b)) w t
+fair : (s : List ℕ) → Bytes s → All (Fair spell 5 Narrow Spellable s) (token s)
+fair s h =
+    all-weaken (Sound s) (Fair spell 5 Narrow Spellable s) (token s) (token-sound s h)
+    (λ v n k. record { some = k .some; there = k .there; good = λ t. (k .typed, k .can t); short = k .short })
 
 -- ---- what is spelled is bytes
 
@@ -83,17 +63,17 @@ body-bytes (Unquoted t) h = append-bytes (leBytes 2 (length t)) t (bytes-bytes 2
 body-bytes (Rgb r g b none) h = omega arith
 body-bytes (Rgb r g b (some a)) h = omega arith
 
-pub spelled-bytes : (vs : List Value) → Enc vs → Bytes (spellAll vs)
+pub spelled-bytes : (vs : List Value) → Each Spellable vs → Bytes (spellAll spell vs)
 unfolding spellAll spell
 spelled-bytes [] e = tt
 spelled-bytes (v ∷ vs) e =
-    append-bytes (spell v) (spellAll vs) (append-bytes (leBytes 2 (tag v)) (body v) (bytes-bytes 2 (tag v)) (body-bytes v (e .0))) (spelled-bytes vs (e .2))
+    append-bytes (spell v) (spellAll spell vs) (append-bytes (leBytes 2 (tag v)) (body v) (bytes-bytes 2 (tag v)) (body-bytes v (e .0 .0))) (spelled-bytes vs (e .1))
 
 -- ---- the four promises
 
-pub clean-kept : {s : List ℕ} → Clean s → Enc (tokens s) × (length (normal s) ≤ 5 * length s)
+pub clean-kept : {s : List ℕ} → Clean s → Each Spellable (tokens s) × (length (normal s) ≤ 5 * length s)
 unfolding tokens walk normal
-clean-kept {s} c = kept (length s) 0 s (le-refl _) (c .bytes) (c .ends) (c .narrow)
+clean-kept {s} c = kept spell 5 Narrow Spellable fair (length s) 0 s (le-refl _) (c .bytes) (c .ends) (narrow-each (values (walk s)) (c .narrow))
 
 -- (a) it has at most five times the save's length
 pub normal-length : {s : List ℕ} → Clean s → length (normal s) ≤ 5 * length s
@@ -102,17 +82,17 @@ normal-length c = clean-kept c .1
 -- (b) it reads to its end, to the same tokens
 pub normal-reads : {s : List ℕ} → Clean s → (tokens (normal s) ≡ tokens s) × T (whole (walk (normal s)))
 unfolding tokens walk normal
-normal-reads {s} c = back (tokens s) (clean-kept c .0) (length (normal s)) 0 (le-refl _)
+normal-reads {s} c = back spell Spellable (λ v e. reads-back v (e .0) (e .1)) (tokens s) (clean-kept c .0) (length (normal s)) 0 (le-refl _)
 
 -- (c) where it is no longer than the limit it is clean, and its own normal form
 pub normal-clean : {s : List ℕ} → Clean s → length (normal s) ≤ LIMIT → Clean (normal s) × (normal (normal s) ≡ normal s)
 unfolding normal
 normal-clean {s} c h = (
   record { limit = h; bytes = spelled-bytes (tokens s) (clean-kept c .0); ends = normal-reads c .1; narrow = rw (normal-reads c .0) (c .narrow) },
-  ap spellAll (normal-reads c .0),
+  ap (spellAll spell) (normal-reads c .0),
 )
 
 -- (d) two clean saves have one normal form exactly when they read to the same tokens
 pub normal-same : {s t : List ℕ} → Clean s → Clean t → (normal s ≡ normal t) ↔ (tokens s ≡ tokens t)
 unfolding normal
-normal-same c d = ((λ e. sym (normal-reads c .0) ∙ ap tokens e ∙ normal-reads d .0), ap spellAll)
+normal-same c d = ((λ e. sym (normal-reads c .0) ∙ ap tokens e ∙ normal-reads d .0), ap (spellAll spell))

@@ -119,7 +119,7 @@ unfolding token
 id-back i h s = num-then 2 i (λ i. payload (after i)) h s
 
 -- a number of w bytes, spelled by an id that says so
-number-back : (i w n : ℕ) (f : ℕ → Value) → i < 2 ^ 16 → after i ≡ number w f → n < 256 ^ w → (s : List ℕ) → token (leBytes 2 i ++ (leBytes w n ++ s)) ≡ found (f n) (2 + w)
+pub number-back : (i w n : ℕ) (f : ℕ → Value) → i < 2 ^ 16 → after i ≡ number w f → n < 256 ^ w → (s : List ℕ) → token (leBytes 2 i ++ (leBytes w n ++ s)) ≡ found (f n) (2 + w)
 unfolding payload _giving_ mapped further
 number-back i w n f hi e h s = id-back i hi (leBytes w n ++ s) ∙ rw (e, num-back w n h s)
 

@@ -35,7 +35,7 @@ OfSave n (ReadFailed p) = ⊥
 OfSave n (BadPlace p) = ⊥
 OfSave n (TooLong m) = ⊥
 
-refused-there : (n k p : ℕ) (s : List ℕ) (r : Refusal) → Bytes s → p + length s ≤ n → firstRefusal (walkF k p s) ≡ some r → OfSave n r
+refused-there : (n k p : ℕ) (s : List ℕ) (r : Refusal) → Bytes s → p + length s ≤ n → firstRefusal reason (walkF k p s) ≡ some r → OfSave n r
 unfolding firstRefusal walkF step refusalAt
 refused-there n zero p s r h l e = never (cc)
 refused-there n (suc k) p [] r h l e = never (cc)
@@ -46,17 +46,17 @@ refused-there n (suc k) p (b ∷ s) r h l e =
     is : (x : Refusal) → some x ≡ some r → OfSave n x → OfSave n r
     is x q o = let y : x ≡ r = cc in subst (OfSave n) y o
 
-    go : (a : Answer Value) → All (Sound (b ∷ s)) a → firstRefusal (step p a (λ m. walkF k (p + m) (drop m (b ∷ s)))) ≡ some r
-        → ((m : ℕ) → m ≤ length (b ∷ s) → firstRefusal (walkF k (p + m) (drop m (b ∷ s))) ≡ some r → OfSave n r) → OfSave n r
+    go : (a : Answer Value) → All (Sound (b ∷ s)) a → firstRefusal reason (step p a (λ m. walkF k (p + m) (drop m (b ∷ s)))) ≡ some r
+        → ((m : ℕ) → m ≤ length (b ∷ s) → firstRefusal reason (walkF k (p + m) (drop m (b ∷ s))) ≡ some r → OfSave n r) → OfSave n r
     go (found v m) x q ih = either (wide v) (rw (only-wide p v (x .can)) at q)
       where
-        either : (t : Bool) → first (pick t (some (WideLookup p)) none) (firstRefusal (walkF k (p + m) (drop m (b ∷ s)))) ≡ some r → OfSave n r
+        either : (t : Bool) → first (pick t (some (WideLookup p)) none) (firstRefusal reason (walkF k (p + m) (drop m (b ∷ s)))) ≡ some r → OfSave n r
         either true q = is (WideLookup p) q (omega arith)
         either false q = ih m (x .there) q
     go (refused tooShort) x q ih = is (Eof p) q (omega arith)
     go (refused badColour) x q ih = is (InvalidRgb p) q (omega arith)
 
-pub save-refusal : (s : List ℕ) (r : Refusal) → Bytes s → firstRefusal (walk s) ≡ some r → OfSave (length s) r
+pub save-refusal : (s : List ℕ) (r : Refusal) → Bytes s → firstRefusal reason (walk s) ≡ some r → OfSave (length s) r
 unfolding walk
 save-refusal s r h e = refused-there (length s) (length s) 0 s r h (omega arith) e
 
@@ -72,12 +72,12 @@ normaliser-refusal room s r b e = limited (leb (length s) LIMIT) e
     roomy true q = never (cc)
     roomy false q = inr (inl (cc))
 
-    held : (o : Option Refusal) → firstRefusal (walk s) ≡ o → unless o (fitted room (normal s)) ≡ unwritten r → OfNormaliser s r
+    held : (o : Option Refusal) → firstRefusal reason (walk s) ≡ o → unless o (fitted room (normal s)) ≡ unwritten r → OfNormaliser s r
     held none h q = roomy (leb (length (normal s)) room) q
     held (some x) h q = let y : x ≡ r = cc in inl (subst (OfSave (length s)) y (save-refusal s x b h))
 
-    limited : (t : Bool) → pick t (unless (firstRefusal (walk s)) (fitted room (normal s))) (unwritten (TooLong (length s))) ≡ unwritten r → OfNormaliser s r
-    limited true q = held (firstRefusal (walk s)) refl q
+    limited : (t : Bool) → pick t (unless (firstRefusal reason (walk s)) (fitted room (normal s))) (unwritten (TooLong (length s))) ≡ unwritten r → OfNormaliser s r
+    limited true q = held (firstRefusal reason (walk s)) refl q
     limited false q = inr (inr (cc))
 
 -- so no long string and no reserved id comes from it

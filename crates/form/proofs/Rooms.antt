@@ -21,7 +21,7 @@ use Rattle.form.specs.Table.{Payload, number, text, colour, table, entri
 use Rattle.form.specs.Refusals.{Refusal, Eof, InvalidRgb, LongString, WideLookup, ReservedId, NoRoom, BufferTooSmall, ReadFailed, BadPlace, TooLong, Fault, tooShort, badColour, refusalValue, refusalValues, refusalAt}
 use Rattle.form.specs.Readers.{Answer, found, refused, _giving_}
 use Rattle.form.specs.Reading.{num, string, payload, token}
-use Rattle.form.specs.Spelling.{bit}
+use Rattle.form.specs.Spelling.{bit, reason}
 use Rattle.form.specs.Saves.{step, walkF, walk, tokens, normal, LIMIT, Clean}
 use Rattle.form.specs.Writing.{written, fitted, firstRefusal, unless, normalise}
 use Rattle.form.specs.Keys.{Test, count, deeper, anyToken, isContainer, isStray, isKey, Counts, counts}
@@ -276,11 +276,11 @@ list-fits room s l h = rw (le-leb (length s) LIMIT l, le-leb (length (listing s)
 
 -- in five times a save's bytes: its normal form is written, or it is refused for what it holds
 pub normalise-fits : (room : ℕ) (s : List ℕ) → Bytes s → length s ≤ LIMIT → 5 * length s ≤ room
-    → normalise room s ≡ unless (firstRefusal (walk s)) (written (normal s))
+    → normalise room s ≡ unless (firstRefusal reason (walk s)) (written (normal s))
 unfolding normalise unless fitted tokens
-normalise-fits room s b l h = rw (le-leb (length s) LIMIT l) (go (firstRefusal (walk s)) refl)
+normalise-fits room s b l h = rw (le-leb (length s) LIMIT l) (go (firstRefusal reason (walk s)) refl)
   where
-    go : (o : Option Refusal) → firstRefusal (walk s) ≡ o → unless o (fitted room (normal s)) ≡ unless o (written (normal s))
+    go : (o : Option Refusal) → firstRefusal reason (walk s) ≡ o → unless o (fitted room (normal s)) ≡ unless o (written (normal s))
     go none e =
         let k = refusal-free (walk s) e in
         let c : Clean s = record { limit = l; bytes = b; ends = k .0; narrow = k .1 } in

@@ -3,10 +3,10 @@ use Prim.Native.Nat.{ℕ}
 use mathlib.Core.Path.{_≡_, refl}
 use mathlib.Core.Bool.{true}
 use mathlib.Core.Option.{none, some}
-use mathlib.Core.List.{List, [], _∷_}
+use mathlib.Core.List.{List, [], _∷_, _++_}
 use lib.ListN.{replicate}
 use Rattle.form.specs.Numbers.{le, leBytes}
-use Rattle.form.specs.Values.{Value, Open, Lookup, Truth, kind}
+use Rattle.form.specs.Values.{Value, Open, F64, Lookup, Truth, Quoted, Unquoted, kind}
 use Rattle.form.specs.Table.{table, entries, find, orPlain, after}
 use Rattle.form.specs.Ids.{OPEN, CLOSE, CHANNEL}
 use Rattle.form.specs.Refusals.{WideLookup, BadPlace, refusalAt, refusalValue, refusalValues}
@@ -15,6 +15,7 @@ use Rattle.form.specs.Reading.{next, num, string, channel, rgb, payload,
 use Rattle.form.specs.Skipping.{stepped, passing, orStop, closed, turned, skipF, skipping, skipContainer}
 use Rattle.form.specs.Calls.{atStart, gives, refuses, within, ended, reads, optional, nexts, ifFound, peeks, landed, skips}
 use Rattle.form.specs.Spelling.{tag, body, spell, reason}
+use Rattle.form.specs.Shortest.{heldBy, firstOf, firstIn, otherwise, orSpelled, shortest}
 use Rattle.form.specs.Saves.{step, walkF, walk}
 use Rattle.form.specs.Writing.{unwritten, leaves, fitted, write, firstRefusal, unless, normalise}
 use Rattle.form.specs.Fast.{Step, fast, slow, Stepped, front, stepNumber, stepText, stepBy, fastStep}
@@ -47,6 +48,17 @@ pub writing-holds : (normalise 99 (0x01 ∷ 0x00 ∷ 0x3f ∷ 0x0d ∷ 0x00 ∷ 
 unfolding le leBytes kind table entries find orPlain after further andThen mapped _followed-by_ _giving_ next num payload token tag
     body spell reason step walkF walk leaves fitted write firstRefusal unless normalise
 writing-holds = (refl, refl, refl)
+
+-- the shortest spellings: an empty text, every lookup, and floats by the bytes of their magnitude
+pub shortest-holds : (shortest (Quoted []) ≡ 0x42 ∷ 0x0d ∷ [])
+    × (shortest (Unquoted []) ≡ 0x17 ∷ 0x00 ∷ 0x00 ∷ 0x00 ∷ [])
+    × (shortest (Lookup 16777216) ≡ 0x3f ∷ 0x0d ∷ 0x00 ∷ 0x00 ∷ 0x00 ∷ 0x01 ∷ [])
+    × (shortest (F64 0) ≡ 0x47 ∷ 0x0d ∷ [])
+    × (shortest (F64 (le (0x00 ∷ replicate 7 0xff))) ≡ 0x50 ∷ 0x0d ∷ 0x00 ∷ 0x01 ∷ [])
+    × (shortest (F64 (le (0x01 ∷ replicate 6 0 ++ (0xff ∷ [])))) ≡ 0x55 ∷ 0x0d ∷ replicate 7 0xff)
+    × (shortest (F64 (le (replicate 7 0 ++ (0x80 ∷ [])))) ≡ 0x67 ∷ 0x01 ∷ replicate 7 0 ++ (0x80 ∷ []))
+unfolding le leBytes tag body spell heldBy firstOf firstIn otherwise orSpelled shortest
+shortest-holds = (refl, refl, refl, refl, refl, refl, refl)
 
 -- a lookup changes all the held bytes, a Bool one, which is the byte that stands there; under 16 bytes no step is fast, and nothing is changed
 pub fast-holds : (fastStep (0x40 ∷ 0x0d ∷ 0x07 ∷ replicate 13 0) (replicate 8 0xff) ≡ record { step = fast (kind (Lookup 7)) 3; held = 0x07 ∷ replicate 7 0 })

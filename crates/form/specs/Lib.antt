@@ -8,6 +8,7 @@ pub mod Reading
 pub mod Skipping
 pub mod Calls
 pub mod Spelling
+pub mod Shortest
 pub mod Saves
 pub mod Writing
 pub mod Put

@@ -10,6 +10,7 @@ use Rattle.form.specs.Refusals.{Refusal, refusalAt}
 use Rattle.form.specs.Readers.{Answer, found, refused}
 use Rattle.form.specs.Reading.{token}
 use Rattle.form.specs.Spelling.{spell, wide}
+use Rattle.form.specs.Shortest.{shortest}
 
 -- each token's place, its number of bytes and its value, and how it ended: at the end, or cut by a refusal
 pub data Walk : Type 0 where
@@ -45,13 +46,18 @@ whole (then p n v w) = whole w
 unfoldable pub tokens : List ℕ → List Value
 tokens s = values (walk s)
 
-unfoldable pub spellAll : List Value → List ℕ
-spellAll [] = []
-spellAll (v ∷ vs) = spell v ++ spellAll vs
+-- values in order, each spelled by f
+unfoldable pub spellAll : (Value → List ℕ) → List Value → List ℕ
+spellAll f [] = []
+spellAll f (v ∷ vs) = f v ++ spellAll f vs
 
 -- the normal form of a clean save: its tokens in order, each as it is spelled
 unfoldable pub normal : List ℕ → List ℕ
-normal s = spellAll (tokens s)
+normal s = spellAll spell (tokens s)
+
+-- the same, each in its shortest spelling
+unfoldable pub shortened : List ℕ → List ℕ
+shortened s = spellAll shortest (tokens s)
 
 unfoldable pub allNarrow : List Value → Bool
 allNarrow [] = true

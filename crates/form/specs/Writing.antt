@@ -9,7 +9,8 @@ use Rattle.form.specs.Numbers.{pick}
 use Rattle.form.specs.Values.{Value}
 use Rattle.form.specs.Refusals.{Refusal, NoRoom, TooLong}
 use Rattle.form.specs.Spelling.{spell, reason}
-use Rattle.form.specs.Saves.{Walk, done, cut, then, walk, normal, LIMIT}
+use Rattle.form.specs.Shortest.{shortest, shortReason}
+use Rattle.form.specs.Saves.{Walk, done, cut, then, walk, normal, shortened, LIMIT}
 
 -- bytes over the front of what stood there
 abbrev pub over : List ℕ → List ℕ → List ℕ
@@ -52,18 +53,29 @@ unless (some r) o = unwritten r
 unfoldable pub write : ℕ → Value → Output
 write room v = unless (reason 0 v) (fitted room (spell v))
 
+-- a token in its shortest spelling
+unfoldable pub writeShortest : ℕ → Value → Output
+writeShortest room v = unless (shortReason 0 v) (fitted room (shortest v))
+
 -- the first of two refusals
 abbrev pub first : Option Refusal → Option Refusal → Option Refusal
 first none o = o
 first (some r) o = some r
 
--- the first refusal of a save in file order: of reading, or of a token that cannot be written
-unfoldable pub firstRefusal : Walk → Option Refusal
-firstRefusal done = none
-firstRefusal (cut r) = some r
-firstRefusal (then p n v w) = first (reason p v) (firstRefusal w)
+-- the first refusal of a save in file order: of reading, or of a token that cannot be written, by what says why
+unfoldable pub firstRefusal : (ℕ → Value → Option Refusal) → Walk → Option Refusal
+firstRefusal why done = none
+firstRefusal why (cut r) = some r
+firstRefusal why (then p n v w) = first (why p v) (firstRefusal why w)
+
+-- the bytes bs for a save
+abbrev pub forSave : (ℕ → Value → Option Refusal) → List ℕ → ℕ → List ℕ → Output
+forSave why bs room s = pick (leb (length s) LIMIT) (unless (firstRefusal why (walk s)) (fitted room bs)) (unwritten (TooLong (length s)))
 
 -- a save in normal form
 unfoldable pub normalise : ℕ → List ℕ → Output
-normalise room s =
-    pick (leb (length s) LIMIT) (unless (firstRefusal (walk s)) (fitted room (normal s))) (unwritten (TooLong (length s)))
+normalise room s = forSave reason (normal s) room s
+
+-- a save in its shortest spelling
+unfoldable pub shorten : ℕ → List ℕ → Output
+shorten room s = forSave shortReason (shortened s) room s

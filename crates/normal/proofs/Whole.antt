@@ -7,6 +7,7 @@ use mathlib.Core.List.{List}
 use lib.ListN.{length}
 use Rattle.form.specs.Numbers.{Bytes, MAX}
 use Rattle.form.specs.Refusals.{Refusal, Eof, InvalidRgb, LongString, WideLookup, ReservedId, NoRoom, BufferTooSmall, ReadFailed, BadPlace, TooLong, refusalValue, refusalValues}
+use Rattle.form.specs.Spelling.{reason}
 use Rattle.form.specs.Saves.{walk, normal}
 use Rattle.form.specs.Writing.{Output, written, unwritten, wrote, declined, outcome, leaves, firstRefusal, unless, normalise}
 use Rattle.form.specs.Listing.{errorLine}
@@ -15,7 +16,7 @@ use Rattle.form.proofs.Runs.{sets-front}
 use Rattle.form.proofs.Refusing.{OfSave, save-refusal}
 use Rattle.form.proofs.Rooms.{normalise-fits, error-length}
 use Rattle.form.specs.Put.{Put}
-use Rattle.normaliser.specs.Passes.{unbounded}
+use Rattle.normaliser.specs.Stretches.{normalStyle, unbounded}
 use Rattle.normal.specs.Lines.{orLine, shown}
 
 -- the line of a refusal of so short a save
@@ -33,8 +34,8 @@ line-short n h (BadPlace p) o = absurd o
 line-short n h (TooLong m) o = absurd o
 
 module _ (s d : List ℕ) (b : Bytes s) (h : (length s ≤ 8192) × (40960 ≤ length d)) where
-  whole : normalise (length d) s ≡ unbounded s
-  unfolding unbounded
+  whole : normalise (length d) s ≡ unbounded normalStyle s
+  unfolding unbounded normal
   whole = normalise-fits (length d) s b (omega arith) (omega arith)
 
   abbrev Shown : ℕ → List ℕ → Type 0
@@ -42,19 +43,19 @@ module _ (s d : List ℕ) (b : Bytes s) (h : (length s ≤ 8192) × (40960 ≤ l
 
   pub normalised : {n : ℕ} {d′ : List ℕ} → wrote n ≡ outcome (normalise (length d) s) → d′ ≡ leaves (normalise (length d) s) d → Shown n d′
   unfolding shown outcome
-  normalised {n} {d′} e q = go (unbounded s) (e ∙ ap outcome whole) (q ∙ ap (λ (o : Output). leaves o d) whole)
+  normalised {n} {d′} e q = go (unbounded normalStyle s) (e ∙ ap outcome whole) (q ∙ ap (λ (o : Output). leaves o d) whole)
     where
       go : (o : Output) → wrote n ≡ outcome o → d′ ≡ leaves o d → (n ≡ length (orLine o)) × (d′ ≡ leaves (written (orLine o)) d)
       go (written bs) e q = (cc, q)
       go (unwritten r) e q = never (cc)
 
   -- the save is refused for what it holds
-  pub why : (r : Refusal) → declined r ≡ outcome (normalise (length d) s) → (unbounded s ≡ unwritten r) × OfSave (length s) r
-  unfolding unbounded unless outcome
-  why r e = go (firstRefusal (walk s)) refl (e ∙ ap outcome whole)
+  pub why : (r : Refusal) → declined r ≡ outcome (normalise (length d) s) → (unbounded normalStyle s ≡ unwritten r) × OfSave (length s) r
+  unfolding unbounded unless outcome normal
+  why r e = go (firstRefusal reason (walk s)) refl (e ∙ ap outcome whole)
     where
-      go : (o : Option Refusal) → firstRefusal (walk s) ≡ o → declined r ≡ outcome (unless o (written (normal s)))
-          → (unless (firstRefusal (walk s)) (written (normal s)) ≡ unwritten r) × OfSave (length s) r
+      go : (o : Option Refusal) → firstRefusal reason (walk s) ≡ o → declined r ≡ outcome (unless o (written (normal s)))
+          → (unless (firstRefusal reason (walk s)) (written (normal s)) ≡ unwritten r) × OfSave (length s) r
       go none k q = never (cc)
       go (some x) k q =
           let y : some x ≡ some r = cc in

@@ -3,7 +3,7 @@ use Prim.Native.Nat.{ℕ}
 use mathlib.Core.List.{List}
 use Rattle.form.specs.Writing.{Output, written, unwritten}
 use Rattle.form.specs.Listing.{errorLine}
-use Rattle.normaliser.specs.Passes.{unbounded}
+use Rattle.normaliser.specs.Stretches.{normalStyle, unbounded}
 
 -- the bytes of an output, or the line of its refusal
 abbrev pub orLine : Output → List ℕ
@@ -11,4 +11,4 @@ orLine (written bs) = bs
 orLine (unwritten r) = errorLine r
 
 unfoldable pub shown : List ℕ → List ℕ
-shown s = orLine (unbounded s)
+shown s = orLine (unbounded normalStyle s)

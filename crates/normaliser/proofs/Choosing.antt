@@ -10,56 +10,84 @@ use borrow.Author.Tests.{le-leb, lt-leb}
 use denote.Enum.Declared.{tagOf}
 use types.Run.{OneOf}
 use Rattle.form.specs.Refusals as R
-use Rattle.form.specs.Saves.{walk, normal, LIMIT}
-use Rattle.form.specs.Writing.{written, unwritten, wrote, outcome, leaves, Follows, fitted, firstRefusal, unless, normalise}
+use Rattle.form.specs.Saves.{walk, LIMIT}
+use Rattle.form.specs.Writing.{Output, written, unwritten, Outcome, wrote, declined, outcome, leaves, Follows, fitted, firstRefusal, unless}
 use Rattle.form.proofs.Never.{never}
 use Rattle.normaliser.specs.declared.Normalised.{Normalised}
 use Rattle.normaliser.specs.declared.Normalised.the-variants.{Written, Eof, InvalidRgb, WideLookup, NoRoom, TooLong}
-use Rattle.normaliser.proofs.Normalised.{the-type}
-use Rattle.normaliser.specs.Passes.{normalisedOutcome, unbounded}
+use Rattle.normaliser.specs.declared.shortening.Shortened.{Shortened}
+use Rattle.normaliser.specs.declared.shortening.Shortened.the-variants as S
+use Rattle.normaliser.proofs.Normalised as N
+use Rattle.normaliser.proofs.shortening.Shortened as H
+use Rattle.normaliser.specs.Answers.{normalisedOutcome, shortenedOutcome}
+use Rattle.normaliser.specs.Stretches.{Style, styled, saved, unbounded, Passed}
+use Rattle.normaliser.proofs.Passing.{unbounded-none}
+
+-- the refusals among the answers
+pub normalised-refused : (r : Normalised) → OneOf (1 ∷ 2 ∷ 3 ∷ 4 ∷ 5 ∷ []) (tagOf N.the-type r) → (n : ℕ) → normalisedOutcome r ≡ wrote n → ⊥
+normalised-refused (Written m) q n e = ⊎-elim (λ h. omega arith) (⊎-elim (λ h. omega arith) (⊎-elim (λ h. omega arith) (⊎-elim (λ h. omega arith) (λ h. omega arith)))) q
+normalised-refused (Eof p) q n e = never (cc)
+normalised-refused (InvalidRgb p) q n e = never (cc)
+normalised-refused (WideLookup p) q n e = never (cc)
+normalised-refused (NoRoom m) q n e = never (cc)
+normalised-refused (TooLong m) q n e = never (cc)
+
+pub shortened-refused : (r : Shortened) → OneOf (1 ∷ 2 ∷ 3 ∷ 4 ∷ []) (tagOf H.the-type r) → (n : ℕ) → shortenedOutcome r ≡ wrote n → ⊥
+shortened-refused (S.Written m) q n e = ⊎-elim (λ h. omega arith) (⊎-elim (λ h. omega arith) (⊎-elim (λ h. omega arith) (λ h. omega arith))) q
+shortened-refused (S.Eof p) q n e = never (cc)
+shortened-refused (S.InvalidRgb p) q n e = never (cc)
+shortened-refused (S.NoRoom m) q n e = never (cc)
+shortened-refused (S.TooLong m) q n e = never (cc)
 
 -- an output of no bytes keeps none
-pub none-before : (ys d : List ℕ) → length ys ≡ 0 → ys ++ d ≡ d
+none-before : (xs d : List ℕ) → length xs ≡ 0 → xs ++ d ≡ d
 none-before [] d h = refl
-none-before (y ∷ ys) d h = absurd (omega arith)
+none-before (x ∷ xs) d h = absurd (omega arith)
 
-pub too-long : (room : ℕ) (s : List ℕ) → LIMIT < length s → normalise room s ≡ unwritten (R.TooLong (length s))
-unfolding normalise
-too-long room s h = rw (lt-leb (length s) LIMIT h)
+-- what follows from one output follows from an equal one
+by-output : {o o′ : Output} {d d′ : List ℕ} → o ≡ o′ → d′ ≡ leaves o′ d → Follows o (outcome o′) d d′
+by-output {d = d} e h = record { answer = ap outcome (sym e); output = h ∙ ap (λ (x : Output). leaves x d) (sym e) }
 
-pub measured-whole : (s : List ℕ) (r : Normalised) (n : ℕ) → normalisedOutcome r ≡ outcome (unbounded s) → r ≡ Written n → (firstRefusal (walk s) ≡ none) × (n ≡ length (normal s))
-unfolding unbounded unless outcome
-measured-whole s r n e q = go (firstRefusal (walk s)) refl (sym (ap normalisedOutcome q) ∙ e)
-  where
-    go : (o : Option R.Refusal) → firstRefusal (walk s) ≡ o → wrote n ≡ outcome (unless o (written (normal s))) → (o ≡ none) × (n ≡ length (normal s))
-    go none h e = (refl, cc)
-    go (some why) h e = never (cc)
+pub too-long : (y : Style) (s d : List ℕ) → LIMIT < length s → Follows (saved y (length d) s) (declined (R.TooLong (length s))) d d
+unfolding outcome leaves
+too-long y s d h = by-output {o′ = unwritten (R.TooLong (length s))} (rw (lt-leb (length s) LIMIT h)) refl
 
-module _ (room : ℕ) (s : List ℕ) (l : length s ≤ LIMIT) where
-  limited : normalise room s ≡ unless (firstRefusal (walk s)) (fitted room (normal s))
-  unfolding normalise
+-- a is what the first pass answers, and xs what it leaves of an output of no bytes
+module _ (y : Style) (s d xs : List ℕ) {a : Outcome} (l : length s ≤ LIMIT) (z : length xs ≡ 0) (e : a ≡ outcome (unbounded y s)) where
+  kept : xs ++ d ≡ d
+  kept = none-before xs d z
+
+  limited : saved y (length d) s ≡ unless (firstRefusal (y .why) (walk s)) (fitted (length d) (styled y s))
   limited = rw (le-leb (length s) LIMIT l)
 
-  pub fitting : firstRefusal (walk s) ≡ none → length (normal s) ≤ room → normalise room s ≡ written (normal s)
-  unfolding unless fitted
-  fitting n h = limited ∙ rw (n, le-leb (length (normal s)) room h)
-
-  pub no-room : firstRefusal (walk s) ≡ none → room < length (normal s) → normalise room s ≡ unwritten (R.NoRoom (length (normal s)))
-  unfolding unless fitted
-  no-room n h = limited ∙ rw (n, lt-leb (length (normal s)) room h)
-
   -- a refusal other than these two does not depend on the room
-  pub measured-refused : (r : Normalised) (d : List ℕ) → normalisedOutcome r ≡ outcome (unbounded s) → OneOf (1 ∷ 2 ∷ 3 ∷ 4 ∷ 5 ∷ []) (tagOf the-type r)
-      → Follows (normalise room s) (normalisedOutcome r) d d
+  pub measured-refused : ((n : ℕ) → a ≡ wrote n → ⊥) → Follows (saved y (length d) s) a d (xs ++ d)
   unfolding unbounded unless outcome leaves
-  measured-refused r d e q = rw limited (go (firstRefusal (walk s)) r e q)
+  measured-refused k = rw limited (go (firstRefusal (y .why) (walk s)) e)
     where
-      go : (o : Option R.Refusal) (r : Normalised) → normalisedOutcome r ≡ outcome (unless o (written (normal s))) → OneOf (1 ∷ 2 ∷ 3 ∷ 4 ∷ 5 ∷ []) (tagOf the-type r)
-          → Follows (unless o (fitted room (normal s))) (normalisedOutcome r) d d
-      go (some why) r e q = record { answer = e; output = refl }
-      go none (Written n) e q = absurd (⊎-elim (λ h. omega arith) (⊎-elim (λ h. omega arith) (⊎-elim (λ h. omega arith) (⊎-elim (λ h. omega arith) (λ h. omega arith)))) q)
-      go none (Eof p) e q = never (cc)
-      go none (InvalidRgb p) e q = never (cc)
-      go none (WideLookup p) e q = never (cc)
-      go none (NoRoom n) e q = never (cc)
-      go none (TooLong n) e q = never (cc)
+      go : (o : Option R.Refusal) → a ≡ outcome (unless o (written (styled y s))) → Follows (unless o (fitted (length d) (styled y s))) a d (xs ++ d)
+      go none e = absurd (k _ e)
+      go (some why) e = record { answer = e; output = kept }
+
+  module _ {n : ℕ} (w : a ≡ wrote n) where
+    measured-whole : (firstRefusal (y .why) (walk s) ≡ none) × (n ≡ length (styled y s))
+    unfolding unbounded unless outcome
+    measured-whole = go (firstRefusal (y .why) (walk s)) (sym w ∙ e)
+      where
+        go : (o : Option R.Refusal) → wrote n ≡ outcome (unless o (written (styled y s))) → (o ≡ none) × (n ≡ length (styled y s))
+        go none e = (refl, cc)
+        go (some why) e = never (cc)
+
+    pub no-room : length (xs ++ d) < n → Follows (saved y (length d) s) (declined (R.NoRoom n)) d (xs ++ d)
+    unfolding unless fitted outcome leaves
+    no-room h =
+        let m = measured-whole in
+        let o : saved y (length d) s ≡ unwritten (R.NoRoom n) = limited ∙ rw (m .0, lt-leb (length (styled y s)) (length d) (omega (arith, ap length kept, m .1)), m .1) in
+        by-output o kept
+
+    pub fitting : {b : Outcome} {d′ : List ℕ} → n ≤ length (xs ++ d) → Passed y s (xs ++ d) d′ b → Follows (saved y (length d) s) b d d′
+    unfolding unless fitted
+    fitting h p =
+        let m = measured-whole in
+        let o : saved y (length d) s ≡ written (styled y s) = limited ∙ rw (m .0, le-leb (length (styled y s)) (length d) (omega (arith, ap length kept, m .1))) in
+        rw (p .answer ∙ ap outcome (unbounded-none y s (m .0))) (by-output o (p .bytes (m .0) (omega (arith, m .1)) ∙ ap (leaves (written (styled y s))) kept))

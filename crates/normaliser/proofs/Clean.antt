@@ -11,7 +11,7 @@ use Rattle.form.proofs.Normal.{normal-length}
 use Rattle.form.proofs.Normalising.{clean-fits, normalised}
 use Rattle.normaliser.specs.declared.Normalised.{Normalised}
 use Rattle.normaliser.specs.declared.Normalised.the-variants.{Written}
-use Rattle.normaliser.specs.Passes.{normalisedOutcome}
+use Rattle.normaliser.specs.Answers.{normalisedOutcome}
 use Rattle.normaliser.proofs.Unique.{normalise-one}
 
 -- d is the output before the call and d′ after it, and r what is answered

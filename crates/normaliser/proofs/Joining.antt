@@ -8,36 +8,35 @@ use lib.ListN.{length, take, drop, length-append}
 use lib.Seq.{take-add, drop-drop}
 use Rattle.form.specs.Values.{Value}
 use Rattle.form.specs.Refusals.{Refusal}
-use Rattle.form.specs.Spelling.{spell, reason}
-use Rattle.form.specs.Saves.{Walk, then, walk, values, tokens, spellAll, normal}
+use Rattle.form.specs.Saves.{Walk, then, walk, values, tokens, spellAll}
 use Rattle.form.specs.Writing.{Output, written, unwritten, firstRefusal, unless}
 use Rattle.form.proofs.Runs.{part-length}
 use Rattle.form.proofs.Walking.{from, from-end}
-use Rattle.normaliser.specs.Stretches.{outputOf, rest, before, between, Spells}
-use Rattle.normaliser.specs.Passes.{unbounded}
+use Rattle.normaliser.specs.Stretches.{Style, outputOf, unbounded, rest, before, between, Spells}
 
 -- ---- what is left
 
-pub rest-from : (s : List ℕ) (p : ℕ) → rest s p ≡ outputOf (from s p)
-unfolding rest from
-rest-from s p = refl
+module _ (y : Style) where
+  pub rest-from : (s : List ℕ) (p : ℕ) → rest y s p ≡ outputOf y (from s p)
+  unfolding rest from
+  rest-from s p = refl
 
-pub rest-start : (s : List ℕ) → rest s 0 ≡ unbounded s
-unfolding rest outputOf unbounded walk normal tokens
-rest-start s = refl
+  pub rest-start : (s : List ℕ) → rest y s 0 ≡ unbounded y s
+  unfolding rest outputOf unbounded walk tokens
+  rest-start s = refl
 
-pub rest-end : (s : List ℕ) (p : ℕ) → length s ≤ p → rest s p ≡ written []
-unfolding outputOf firstRefusal values spellAll unless
-rest-end s p h = rest-from s p ∙ ap outputOf (from-end s p h)
+  pub rest-end : (s : List ℕ) (p : ℕ) → length s ≤ p → rest y s p ≡ written []
+  unfolding outputOf firstRefusal values spellAll unless
+  rest-end s p h = rest-from s p ∙ ap (outputOf y) (from-end s p h)
 
--- a token that can be written stands before what is left after it
-pub output-then : (p n : ℕ) (v : Value) (w : Walk) → reason p v ≡ none → outputOf (then p n v w) ≡ before (spell v) (outputOf w)
-unfolding outputOf firstRefusal values spellAll unless before
-output-then p n v w h = rw h (go (firstRefusal w))
-  where
-    go : (o : Option Refusal) → unless o (written (spell v ++ spellAll (values w))) ≡ before (spell v) (unless o (written (spellAll (values w))))
-    go none = refl
-    go (some r) = refl
+  -- a token that has a spelling stands before what is left after it
+  pub output-then : (p n : ℕ) (v : Value) (w : Walk) → y .why p v ≡ none → outputOf y (then p n v w) ≡ before (y .spelled v) (outputOf y w)
+  unfolding outputOf firstRefusal values spellAll unless before
+  output-then p n v w h = rw h (go (firstRefusal (y .why) w))
+    where
+      go : (o : Option Refusal) → unless o (written (y .spelled v ++ spellAll (y .spelled) (values w))) ≡ before (y .spelled v) (unless o (written (spellAll (y .spelled) (values w))))
+      go none = refl
+      go (some r) = refl
 
 -- ---- what stands before
 
@@ -51,15 +50,15 @@ unfolding before
 before-nil (written cs) = refl
 before-nil (unwritten r) = refl
 
-pub spells-none : (s : List ℕ) (p : ℕ) → p ≤ length s → Spells s p p []
-spells-none s p h = record { on = omega arith; there = h; short = omega arith; is = sym (before-nil (rest s p)) }
+pub spells-none : {y : Style} (s : List ℕ) (p : ℕ) → p ≤ length s → Spells y s p p []
+spells-none {y} s p h = record { on = omega arith; there = h; short = omega arith; is = sym (before-nil (rest y s p)) }
 
-pub spells-then : {s a b : List ℕ} {p q r : ℕ} → Spells s p q a → Spells s q r b → Spells s p r (a ++ b)
-spells-then {s} {a} {b} {p} {q} {r} x y = record {
-  on = omega (arith, x .on, y .on);
-  there = y .there;
-  short = omega (arith, x .on, y .on, x .short, y .short, length-append a b);
-  is = x .is ∙ ap (before a) (y .is) ∙ before-before a b (rest s r);
+pub spells-then : {y : Style} {s a b : List ℕ} {p q r : ℕ} → Spells y s p q a → Spells y s q r b → Spells y s p r (a ++ b)
+spells-then {y} {s} {a} {b} {p} {q} {r} k l = record {
+  on = omega (arith, k .on, l .on);
+  there = l .there;
+  short = omega (arith, k .on, l .on, k .short, l .short, length-append a b);
+  is = k .is ∙ ap (before a) (l .is) ∙ before-before a b (rest y s r);
 }
 
 -- ---- the save's own bytes

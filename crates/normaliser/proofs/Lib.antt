@@ -6,3 +6,4 @@ pub mod Respelling
 pub mod Choosing
 pub mod Unique
 pub mod Clean
+pub mod Readable

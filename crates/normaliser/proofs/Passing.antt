@@ -17,17 +17,16 @@ use Rattle.form.specs.Values as F
 use Rattle.form.specs.Values.{kind}
 use Rattle.form.specs.Table.{table, entries}
 use Rattle.form.specs.Spelling.{tag, body, spell}
-use Rattle.form.specs.Saves.{LIMIT, walk, normal}
-use Rattle.form.specs.Writing.{written, unwritten, Outcome, wrote, outcome, leaves, Follows, fitted, firstRefusal, unless}
+use Rattle.form.specs.Saves.{LIMIT, walk}
+use Rattle.form.specs.Writing.{written, unwritten, Outcome, wrote, outcome, leaves, fitted, firstRefusal, unless}
 use Rattle.form.proofs.Never.{never}
 use Rattle.form.proofs.Puts.{put-then, put-none, put-front}
 use Rattle.writer.specs.Layouts.{idNumber}
 use Rattle.normaliser.specs.declared.Normalised.{Normalised}
-use Rattle.normaliser.specs.declared.Normalised.the-variants.{Written}
 use Rattle.normaliser.specs.declared.Respelled.{Respelled}
 use Rattle.normaliser.specs.declared.Respelled.the-variants.{To, Refused}
-use Rattle.normaliser.specs.Stretches.{before, Spells, Placed, Respelt, Respells, Stopped, Appends}
-use Rattle.normaliser.specs.Passes.{unbounded, Passed}
+use Rattle.normaliser.specs.Answers.{normalisedOutcome}
+use Rattle.normaliser.specs.Stretches.{Style, normalStyle, styled, unbounded, Passed, before, Spells, Placed, Respelt, Respells, Stopped, Appends}
 use Rattle.normaliser.specs.Spellings.{SpeltToken, Stand}
 use Rattle.normaliser.proofs.Joining.{rest-start, rest-end, spells-none, spells-then}
 
@@ -97,70 +96,70 @@ appends-then {a = a} {b} p q = record {
 -- ---- a pass
 
 -- it has come to place i: the tokens before it are spelled by the bytes done, which are in the output if they fit there
-pub record Going (s d₀ d : List ℕ) (i need : ℕ) : Type 0 where
+pub record Going (y : Style) (s d₀ d : List ℕ) (i need : ℕ) : Type 0 where
   pub done : List ℕ
-  pub spells : Spells s 0 i done
+  pub spells : Spells y s 0 i done
   pub appends : Appends d₀ 0 done d need
 
-pub going-start : (s d : List ℕ) → length d ≤ MAX → Going s d d 0 0
+pub going-start : {y : Style} (s d : List ℕ) → length d ≤ MAX → Going y s d d 0 0
 going-start s d m = record { done = []; spells = spells-none s 0 (omega arith); appends = appends-none d 0 m }
 
 -- the tokens up to q are spelled by bs, and those bytes are put after the ones that are done
-pub went-on : {s d₀ d d′ bs : List ℕ} {i need q r : ℕ} → Going s d₀ d i need → Spells s i q bs → Appends d need bs d′ r → Going s d₀ d′ q r
+pub went-on : {y : Style} {s d₀ d d′ bs : List ℕ} {i need q r : ℕ} → Going y s d₀ d i need → Spells y s i q bs → Appends d need bs d′ r → Going y s d₀ d′ q r
 went-on {bs = bs} g k a = record { done = g .done ++ bs; spells = spells-then (g .spells) k; appends = appends-then (g .appends) a }
+
+-- the bytes so far are few enough to count
+pub bounded : {y : Style} {s d₀ d : List ℕ} {i need : ℕ} → Going y s d₀ d i need → length s ≤ LIMIT → need ≤ 5 * LIMIT
+bounded g l = omega (arith, g .appends .count, g .spells .short, g .spells .there)
 
 -- ---- how it ends
 
-pub unbounded-none : (s : List ℕ) → firstRefusal (walk s) ≡ none → unbounded s ≡ written (normal s)
+pub unbounded-none : (y : Style) (s : List ℕ) → firstRefusal (y .why) (walk s) ≡ none → unbounded y s ≡ written (styled y s)
 unfolding unbounded unless
-unbounded-none s n = rw n
+unbounded-none y s n = rw n
 
 written-same : {a b : List ℕ} → written a ≡ written b → a ≡ b
 written-same e = cc
 
-pub going-end : {s d₀ d : List ℕ} {i need : ℕ} → length d₀ ≤ MAX → Going s d₀ d i need → length s ≤ i → Passed s d₀ d (Written need)
+pub going-end : {y : Style} {s d₀ d : List ℕ} {i need : ℕ} → length d₀ ≤ MAX → Going y s d₀ d i need → length s ≤ i → Passed y s d₀ d (wrote need)
 unfolding before outcome leaves
-going-end {s} {d₀} {d} {i} {need} m g h =
-    let e : unbounded s ≡ written (g .done) =
-    sym (rest-start s) ∙ g .spells .is ∙ ap (before (g .done)) (rest-end s i h) ∙ ap written (append-nil (g .done)) in
+going-end {y} {s} {d₀} {d} {i} {need} m g h =
+    let e : unbounded y s ≡ written (g .done) =
+    sym (rest-start y s) ∙ g .spells .is ∙ ap (before (g .done)) (rest-end y s i h) ∙ ap written (append-nil (g .done)) in
     record {
       answer = ap wrote (g .appends .count ∙ zero-add (length (g .done))) ∙ ap outcome (sym e);
       bytes = λ n l.
-          let k : g .done ≡ normal s = written-same (sym e ∙ unbounded-none s n) in
+          let k : g .done ≡ styled y s = written-same (sym e ∙ unbounded-none y s n) in
           put-front m l (rw k at (g .appends .puts (omega (arith, g .appends .count, ap length k))));
     }
 
-pub going-stopped : {s d₀ d : List ℕ} {i need : ℕ} {x : Normalised} → Going s d₀ d i need → Stopped s i x → (d′ : List ℕ) → Passed s d₀ d′ x
+pub going-stopped : {y : Style} {s d₀ d : List ℕ} {i need : ℕ} {a : Outcome} → Going y s d₀ d i need → Stopped y s i a → (d′ : List ℕ) → Passed y s d₀ d′ a
 unfolding before outcome
-going-stopped {s} {i = i} g k d′ =
-    let e : unbounded s ≡ unwritten (k .why) = sym (rest-start s) ∙ g .spells .is ∙ ap (before (g .done)) (k .is) in
+going-stopped {y} {s} {i = i} g k d′ =
+    let e : unbounded y s ≡ unwritten (k .why) = sym (rest-start y s) ∙ g .spells .is ∙ ap (before (g .done)) (k .is) in
     record {
       answer = k .answer ∙ ap outcome (sym e);
-      bytes = λ n. let z : written (normal s) ≡ unwritten (k .why) = sym (unbounded-none s n) ∙ e in never (cc);
+      bytes = λ n. let z : written (styled y s) ≡ unwritten (k .why) = sym (unbounded-none y s n) ∙ e in never (cc);
     }
 
--- ---- the same, by what the code knows
+-- ---- in normal form, by what the code knows
 
-module _ {s d₀ d d′ : List ℕ} {i need : ℕ} {x : Respelled} (g : Going s d₀ d i need) (r : Respells s i d need d′ x) where
-  pub stopped : {why : Normalised} → x ≡ Refused why → Passed s d₀ d′ why
+module _ {s d₀ d d′ : List ℕ} {i need : ℕ} {x : Respelled} (g : Going normalStyle s d₀ d i need) (r : Respells s i d need d′ x) where
+  pub stopped : {why : Normalised} → x ≡ Refused why → Passed normalStyle s d₀ d′ (normalisedOutcome why)
   stopped q = going-stopped g (rw q at r) d′
 
-  pub turned : {q n : ℕ} → x ≡ To q n → (i < q) × Going s d₀ d′ q (need + n)
-  turned {q} {n} e = let t : Respelt s i q n d need d′ = rw e at r in (t .more, went-on g (t .spells) (t .appends))
-
--- the bytes so far are few enough to count
-pub bounded : {s d₀ d : List ℕ} {i need : ℕ} → Going s d₀ d i need → length s ≤ LIMIT → need ≤ 5 * LIMIT
-bounded g l = omega (arith, g .appends .count, g .spells .short, g .spells .there)
+  pub turned : {q n : ℕ} → x ≡ To q n → (i < q) × Going normalStyle s d₀ d′ q (need + n)
+  turned {q} {n} e = let t : Respelt normalStyle s i q n d need d′ = rw e at r in (t .more, went-on g (t .spells) (t .appends))
 
 -- a run can be copied
-pub run-there : {s d₀ d : List ℕ} {i need e : ℕ} → Going s d₀ d i need → Stand s i e → length s ≤ LIMIT → (i ≤ e) × (e ≤ length s) × (need + (e - i) ≤ MAX)
+pub run-there : {s d₀ d : List ℕ} {i need e : ℕ} → Going normalStyle s d₀ d i need → Stand s i e → length s ≤ LIMIT → (i ≤ e) × (e ≤ length s) × (need + (e - i) ≤ MAX)
 run-there g h l = (h .on, h .there, omega (arith, g .appends .count, g .spells .short, h .on, h .there))
 
-module _ {s d₀ d d′ : List ℕ} {i need q r : ℕ} (x : ℕ) (g : Going s d₀ d i need) where
-  pub float-on : SpeltToken s i q (spell (F.F64 x)) → Appends d need (idNumber 0x0167 8 x) d′ r → Going s d₀ d′ q r
+module _ {s d₀ d d′ : List ℕ} {i need q r : ℕ} (x : ℕ) (g : Going normalStyle s d₀ d i need) where
+  pub float-on : SpeltToken s i q (spell (F.F64 x)) → Appends d need (idNumber 0x0167 8 x) d′ r → Going normalStyle s d₀ d′ q r
   unfolding spell tag body entries table kind leBytes
   float-on t a = went-on g (t .1) a
 
-  pub lookup-on : SpeltToken s i q (spell (F.Lookup x)) → Appends d need (idNumber 0x0d41 3 x) d′ r → Going s d₀ d′ q r
+  pub lookup-on : SpeltToken s i q (spell (F.Lookup x)) → Appends d need (idNumber 0x0d41 3 x) d′ r → Going normalStyle s d₀ d′ q r
   unfolding spell tag body entries table kind leBytes
   lookup-on t a = went-on g (t .1) a

@@ -1,3 +1,3 @@
-pub mod Passes
+pub mod Answers
 pub mod Stretches
 pub mod Spellings

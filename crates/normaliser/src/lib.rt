@@ -1,4 +1,5 @@
-// The whole save in normal form, into a lent output.
+// The whole save in normal form, into a lent output; and in its shortest spelling.
+mod shortening;
 mod spelling;
 
 ghost use mathlib.Core.Path.{_≡_};
@@ -10,8 +11,10 @@ ghost use Rattle.form.specs.Saves.{LIMIT as Saves·LIMIT};
 ghost use Rattle.form.specs.Writing.{declined, Follows, normalise as Writing·normalise};
 ghost use Rattle.payload.specs.Answers.{faultOf};
 ghost use Rattle.writer.specs.Layouts.{idNumber};
-ghost use Rattle.normaliser.specs.Stretches.{between, Placed, Respells, Appends};
-ghost use Rattle.normaliser.specs.Passes.{normalisedOutcome, Passed};
+ghost use Rattle.normaliser.specs.Answers.{normalisedOutcome};
+ghost use Rattle.normaliser.specs.Stretches.{normalStyle, Passed, between, Placed, Respells, Appends};
+pub use crate::shortening::Shortened;
+pub use crate::shortening::shorten;
 use crate::spelling::Run;
 use lexeme::LexemeId;
 use payload::LexError;
@@ -98,7 +101,7 @@ fn copy_run(bytes: &[u8], start: usize, end: usize, out: &mut [u8], need: usize)
 // not written: so on an output of no bytes the pass measures.
 fn pass(bytes: &[u8], out: &mut [u8]) -> Normalised
     requires { ⌜ length (now bytes) ≤ Saves·LIMIT ⌝ }
-    ensures { λ r. ⌜ Passed (now (bytes .entry)) (now (out .entry)) (now (out .exit)) r ⌝ }
+    ensures { λ r. ⌜ Passed normalStyle (now (bytes .entry)) (now (out .entry)) (now (out .exit)) (normalisedOutcome r) ⌝ }
 {
     let mut at: usize = 0;
     let mut need: usize = 0;

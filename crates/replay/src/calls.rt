@@ -27,8 +27,10 @@ pub(crate) fn holds(numbers: &[u64; NUMBERS], bytes: &[u8], output: &[u8]) -> bo
         ask(call, bytes, at, arg, &mut answer)
     } else if call < 33 {
         outputs::ask(call, bytes, at, arg, &mut out, &mut answer)
-    } else {
+    } else if call < 49 {
         sources::ask(call, bytes, at, arg, &mut out, &mut answer)
+    } else {
+        outputs::ask(call, bytes, at, arg, &mut out, &mut answer)
     };
     if same_code(asked, numbers[3]) {
         if same_words(numbers, &answer) {
@@ -48,7 +50,7 @@ fn same_code(asked: Asked, code: u64) -> bool {
 // What the words are before the call, so that one that is left alone shows. The calls on an id and those that make a state are lent none.
 fn lent(call: u64) -> u64 {
     match call {
-        3..=46 => u64::MAX,
+        3..=46 | 49..=50 => u64::MAX,
         _ => 0,
     }
 }

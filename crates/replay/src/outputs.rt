@@ -27,16 +27,18 @@ pub(crate) fn ask(
 // The numbers go on from those of the other calls.
 fn ask_within(call: u64, bytes: &[u8], arg: usize, out: &mut [u8], answer: &mut [u64]) -> Asked {
     match call {
-        29 => write(bytes, arg, out, answer),
+        29 => write(bytes, arg, out, answer, false),
         30 => Asked::Code(writing::stivlaheim_normalise(bytes, out, answer)),
         31 => Asked::Code(writing::stivlaheim_list(bytes, out, answer)),
         32 => next_token_fast(bytes, out, answer),
+        49 => write(bytes, arg, out, answer, true),
+        50 => Asked::Code(writing::stivlaheim_shorten(bytes, out, answer)),
         _ => Asked::Nothing,
     }
 }
 
 // The token's five words stand before the bytes.
-fn write(bytes: &[u8], kind: usize, out: &mut [u8], answer: &mut [u64]) -> Asked {
+fn write(bytes: &[u8], kind: usize, out: &mut [u8], answer: &mut [u64], shortest: bool) -> Asked {
     if kind > 0xffff_ffff {
         return Asked::Nothing;
     }
@@ -50,7 +52,17 @@ fn write(bytes: &[u8], kind: usize, out: &mut [u8], answer: &mut [u64]) -> Asked
         word(bytes, 24),
         word(bytes, 32),
     ];
-    Asked::Code(writing::stivlaheim_write(&bytes[40..], kind as u32, &words, out, answer))
+    let text = &bytes[40..];
+    if shortest {
+        return Asked::Code(writing::stivlaheim_write_shortest(
+            text,
+            kind as u32,
+            &words,
+            out,
+            answer,
+        ));
+    }
+    Asked::Code(writing::stivlaheim_write(text, kind as u32, &words, out, answer))
 }
 
 pub(crate) fn word(bytes: &[u8], at: usize) -> u64 {

@@ -68,6 +68,7 @@ impl Tally {
             29..=31 => t.writes = more(t.writes),
             32 => t.steps = more(t.steps),
             33..=48 => t.sources = more(t.sources),
+            49..=50 => t.writes = more(t.writes),
             _ => t.unreadable = more(t.unreadable),
         }
         t

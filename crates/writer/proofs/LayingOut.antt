@@ -30,7 +30,7 @@ use Rattle.writer.specs.declared.layout.Layout.the-variants.{Number, Tex
 use Rattle.writer.specs.Layouts.{idText, spelledBy, misplacedBy, reasonBy, writeBy, LaysOut}
 
 -- a text that lies within the bytes is as long as it says
-text-length : (s : List ℕ) (t : Place) → lies s t ≡ true → length (take (t .len) (drop (t .start) s)) ≡ t .len
+pub text-length : (s : List ℕ) (t : Place) → lies s t ≡ true → length (take (t .len) (drop (t .start) s)) ≡ t .len
 text-length s t h = part-length s (t .start) (t .len) (omega (arith, leb-true (t .start + t .len) (length s) h))
 
 pub placed-length : (s : List ℕ) (t : Place) → placeOf s t ≡ none → length (partOf s t) ≡ t .len

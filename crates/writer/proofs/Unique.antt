@@ -10,7 +10,7 @@ use Rattle.token.specs.declared.Token.{Token}
 use Rattle.writer.specs.declared.Wrote.{Wrote}
 use Rattle.writer.specs.declared.Wrote.the-variants.{Written, LongString, WideLookup, ReservedId, NoRoom, BadPlace}
 use Rattle.writer.specs.Layouts.{idNumber}
-use Rattle.writer.specs.Writes.{writeToken, wroteOutcome}
+use Rattle.writer.specs.Writes.{writeToken, writeShortestToken, wroteOutcome}
 
 -- the writer answers no other refusal
 abbrev wroteBack : Outcome → Wrote
@@ -37,6 +37,11 @@ wrote-back (BadPlace p) = refl
 pub write-one : (s : List ℕ) (t : Token) (d : List ℕ) {r r′ : Wrote} {d′ d″ : List ℕ}
     → Follows (writeToken (length d) s t) (wroteOutcome r) d d′ → Follows (writeToken (length d) s t) (wroteOutcome r′) d d″ → (r ≡ r′) × (d′ ≡ d″)
 write-one s t d = follows-one wroteOutcome wroteBack wrote-back (writeToken (length d) s t) d
+
+pub write-shortest-one : (s : List ℕ) (t : Token) (d : List ℕ) {r r′ : Wrote} {d′ d″ : List ℕ}
+    → Follows (writeShortestToken (length d) s t) (wroteOutcome r) d d′ → Follows (writeShortestToken (length d) s t) (wroteOutcome r′) d d″
+    → (r ≡ r′) × (d′ ≡ d″)
+write-shortest-one s t d = follows-one wroteOutcome wroteBack wrote-back (writeShortestToken (length d) s t) d
 
 pub copy-one : (s d : List ℕ) {r r′ : Wrote} {d′ d″ : List ℕ}
     → Follows (fitted (length d) s) (wroteOutcome r) d d′ → Follows (fitted (length d) s) (wroteOutcome r′) d d″ → (r ≡ r′) × (d′ ≡ d″)

@@ -18,9 +18,9 @@ use Rattle.token.specs.declared.Token.{Token}
 use Rattle.payload.specs.Texts.{partOf}
 use Rattle.token.specs.Texts.{placeOf}
 use Rattle.writer.specs.declared.Wrote.{Wrote}
-use Rattle.writer.specs.Writes.{writeToken, wroteOutcome}
+use Rattle.writer.specs.Writes.{writeToken, writeShortestToken, wroteOutcome}
 use Rattle.writer.specs.declared.layout.Layout.{Layout}
-use Rattle.writer.specs.declared.layout.Layout.the-variants.{Number, Text, Lookup, Rgb, Id}
+use Rattle.writer.specs.declared.layout.Layout.the-variants.{Number, Text, Empty, Lookup, Rgb, Id}
 
 -- an id and a number of w bytes
 abbrev pub idNumber : ℕ → ℕ → ℕ → List ℕ
@@ -43,6 +43,7 @@ idColour c = leBytes 2 0x0243 ++ (leBytes 2 OPEN ++ channels c)
 unfoldable pub spelledBy : List ℕ → Layout → List ℕ
 spelledBy s (Number i w n) = idNumber (i .0) w n
 spelledBy s (Text i t) = idText (i .0) (partOf s t)
+spelledBy s (Empty t) = leBytes 2 0x0d42
 spelledBy s (Lookup n) = idNumber 0x0d41 3 n
 spelledBy s (Rgb c) = idColour c
 spelledBy s (Id i) = leBytes 2 i
@@ -50,6 +51,7 @@ spelledBy s (Id i) = leBytes 2 i
 unfoldable pub misplacedBy : List ℕ → Layout → Option Refusal
 misplacedBy s (Number i w n) = none
 misplacedBy s (Text i t) = placeOf s t
+misplacedBy s (Empty t) = placeOf s t
 misplacedBy s (Lookup n) = none
 misplacedBy s (Rgb c) = none
 misplacedBy s (Id i) = none
@@ -57,6 +59,7 @@ misplacedBy s (Id i) = none
 unfoldable pub reasonBy : Layout → Option Refusal
 reasonBy (Number i w n) = none
 reasonBy (Text i t) = pick (ltb (t .len) 65536) none (some (LongString 0))
+reasonBy (Empty t) = none
 reasonBy (Lookup n) = pick (ltb n (2 ^ 24)) none (some (WideLookup 0))
 reasonBy (Rgb c) = none
 reasonBy (Id i) = pick (reserved i) (some (ReservedId 0)) none
@@ -72,3 +75,7 @@ Judged room p r = (s : List ℕ) → wroteOutcome r ≡ outcome (writeBy room s 
 -- a token has such a layout that writing it is writing the token
 abbrev pub LaysOut : Token → Layout → Type 0
 LaysOut t p = (room : ℕ) (s : List ℕ) → writeBy room s p ≡ writeToken room s t
+
+-- or writing its shortest spelling
+abbrev pub LaysOutShortest : Token → Layout → Type 0
+LaysOutShortest t p = (room : ℕ) (s : List ℕ) → writeBy room s p ≡ writeShortestToken room s t

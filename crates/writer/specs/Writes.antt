@@ -5,7 +5,7 @@ use mathlib.Core.Option.{Option, none}
 use mathlib.Core.List.{List}
 use lib.ListN.{length}
 use Rattle.form.specs.Refusals as R
-use Rattle.form.specs.Writing.{Output, Outcome, wrote, declined, outcome, fitted, unless, write}
+use Rattle.form.specs.Writing.{Output, Outcome, wrote, declined, outcome, fitted, unless, write, writeShortest}
 use Rattle.token.specs.declared.Token.{Token}
 use Rattle.token.specs.declared.Token.the-variants.{Open, Close, Equal, U32, U64, I32, Bool, Quoted, Unquoted, F32, F64, Rgb, I64, Lookup, Id}
 use Rattle.token.specs.Tokens.{valueOf}
@@ -34,6 +34,10 @@ misplaced s (Id i) = none
 -- a token into an output with so much room
 unfoldable pub writeToken : ℕ → List ℕ → Token → Output
 writeToken room s t = unless (misplaced s t) (write room (valueOf s t))
+
+-- a token in its shortest spelling
+unfoldable pub writeShortestToken : ℕ → List ℕ → Token → Output
+writeShortestToken room s t = unless (misplaced s t) (writeShortest room (valueOf s t))
 
 abbrev pub wroteOutcome : Wrote → Outcome
 wroteOutcome (Written n) = wrote n

@@ -8,7 +8,7 @@ ghost use lib.ListN.{length};
 ghost use Rattle.form.specs.Numbers.{leBytes};
 ghost use Rattle.form.specs.Writing.{outcome, Follows, fitted};
 ghost use Rattle.writer.specs.Layouts.{writeBy, Judged};
-ghost use Rattle.writer.specs.Writes.{writeToken, wroteOutcome, Fitted};
+ghost use Rattle.writer.specs.Writes.{writeToken, writeShortestToken, wroteOutcome, Fitted};
 use crate::layout::Layout;
 use lexeme::LexemeId;
 use payload::Alpha;
@@ -71,6 +71,17 @@ fn judge_id(x: u16, room: usize) -> Wrote
     Wrote::ReservedId(0)
 }
 
+// The text is of no bytes.
+fn judge_empty(bytes: &[u8], t: Text, room: usize) -> Wrote
+    ensures { λ r. ⌜ wroteOutcome r ≡ outcome (writeBy room (now (bytes .entry)) (Layout.Empty t)) ⌝ }
+{
+    let place = token::text(bytes, t);
+    match place {
+        TextAnswer::BadPlace(start) => Wrote::BadPlace(start),
+        TextAnswer::Within => fit(2, room),
+    }
+}
+
 // What a write of a token so laid out answers.
 fn judge(bytes: &[u8], p: Layout, room: usize) -> Wrote
     ensures { λ r. ⌜ wroteOutcome r ≡ outcome (writeBy room (now (bytes .entry)) p) ⌝ }
@@ -78,6 +89,7 @@ fn judge(bytes: &[u8], p: Layout, room: usize) -> Wrote
     match p {
         Layout::Number(_, width, _) => fit(2 + width as usize, room),
         Layout::Text(id, t) => judge_text(bytes, id, t, room),
+        Layout::Empty(t) => judge_empty(bytes, t, room),
         Layout::Lookup(n) => judge_lookup(n, room),
         Layout::Rgb(c) => {
             let a = c.a;
@@ -90,17 +102,32 @@ fn judge(bytes: &[u8], p: Layout, room: usize) -> Wrote
     }
 }
 
-// The token at the front of the output, or a refusal that leaves the output as it is. A string's text stands in bytes.
-pub fn write(bytes: &[u8], token: Token, out: &mut [u8]) -> Wrote
-    ensures { λ r. ⌜ Follows (writeToken (length (now (out .entry))) (now (bytes .entry)) token) (wroteOutcome r) (now (out .entry)) (now (out .exit)) ⌝ }
+// A token by its layout.
+fn write_layout(bytes: &[u8], p: Layout, out: &mut [u8]) -> Wrote
+    ensures { λ r. ⌜ Follows (writeBy (length (now (out .entry))) (now (bytes .entry)) p) (wroteOutcome r) (now (out .entry)) (now (out .exit)) ⌝ }
 {
-    let p = layout::laid_out(token);
     let answer = judge(bytes, p, out.len());
     let Wrote::Written(_) = answer else {
         return answer;
     };
     put::layout(out, 0, bytes, p);
     answer
+}
+
+// The token at the front of the output, or a refusal that leaves the output as it is. A string's text stands in bytes.
+pub fn write(bytes: &[u8], token: Token, out: &mut [u8]) -> Wrote
+    ensures { λ r. ⌜ Follows (writeToken (length (now (out .entry))) (now (bytes .entry)) token) (wroteOutcome r) (now (out .entry)) (now (out .exit)) ⌝ }
+{
+    let p = layout::laid_out(token);
+    write_layout(bytes, p, out)
+}
+
+// The same in the token's shortest spelling: the fewest bytes that read to it.
+pub fn write_shortest(bytes: &[u8], token: Token, out: &mut [u8]) -> Wrote
+    ensures { λ r. ⌜ Follows (writeShortestToken (length (now (out .entry))) (now (bytes .entry)) token) (wroteOutcome r) (now (out .entry)) (now (out .exit)) ⌝ }
+{
+    let p = layout::shortest(token);
+    write_layout(bytes, p, out)
 }
 
 // The bytes as they are at the front of the output, or a refusal that leaves the output as it is.

@@ -119,6 +119,7 @@ pub(crate) fn layout(out: &mut [u8], at: usize, bytes: &[u8], p: Layout) -> usiz
             let text = token::text_part(bytes, t);
             id_text(out, at, x, text)
         }
+        Layout::Empty(_) => id(out, at, LexemeId::EMPTY_STRING),
         Layout::Lookup(n) => id_number(out, at, LexemeId::LOOKUP_U24, 3, n as u64),
         Layout::Rgb(c) => id_colour(out, at, c),
         Layout::Id(x) => id(out, at, LexemeId::new(x)),

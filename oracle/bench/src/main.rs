@@ -1,4 +1,4 @@
-//! How fast the port reads, skips, normalises and steps beside the original, on the same bytes, in turns.
+//! How fast the port reads, skips, normalises, shortens and steps beside the original, on the same bytes, in turns.
 
 mod arguments;
 mod callgrind;

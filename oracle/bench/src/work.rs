@@ -1,7 +1,7 @@
 //! What is measured.
 
 use original::FAST_WINDOW;
-use protocol::{Answer, Call, WORDS, code};
+use protocol::{Answer, Call, Spelling, WORDS, code};
 use saves::{Flavour, Plan, Rng, narrow, save};
 use std::hint::black_box;
 
@@ -27,16 +27,17 @@ pub enum Task {
     Read,
     Skip,
     Normalise,
+    Shorten,
     Fast,
 }
 
 impl Task {
-    const ALL: [Task; 4] = [Task::Read, Task::Skip, Task::Normalise, Task::Fast];
+    const ALL: [Task; 5] = [Task::Read, Task::Skip, Task::Normalise, Task::Shorten, Task::Fast];
 
     /// Colours are not fast, and the last three flavours have some.
     fn flavours(self) -> &'static [Flavour] {
         match self {
-            Task::Read | Task::Skip | Task::Normalise => &Flavour::ALL,
+            Task::Read | Task::Skip | Task::Normalise | Task::Shorten => &Flavour::ALL,
             Task::Fast => &Flavour::ALL[..5],
         }
     }
@@ -46,6 +47,7 @@ impl Task {
             Task::Read => "read",
             Task::Skip => "skip",
             Task::Normalise => "normalise",
+            Task::Shorten => "shorten",
             Task::Fast => "fast step",
         }
     }
@@ -67,13 +69,13 @@ impl Work {
     }
 
     /// For skipping, the save stands in a container whose Open is read already; to have a normal form, it has no wide
-    /// lookups.
+    /// lookups. The same save is shortened.
     pub fn input(self) -> Vec<u8> {
         let mut rng = Rng::new(self.flavour as u64);
         let mut bytes = save(Plan { flavour: self.flavour, size: SIZE, longest_text: LONGEST_TEXT }, &mut rng);
         match self.task {
             Task::Skip => bytes.extend([4, 0]),
-            Task::Normalise => narrow(&mut bytes),
+            Task::Normalise | Task::Shorten => narrow(&mut bytes),
             Task::Read | Task::Fast => {}
         }
         bytes
@@ -85,20 +87,26 @@ pub fn output() -> Vec<u8> {
     vec![0; 6 * SIZE]
 }
 
-/// The port's answer and output and the original's are the same, and all of the input is done.
+/// The port's answer and output and the original's are the same, and all of the input is done. What is shortened is the
+/// same once the original has written its tokens.
 pub fn agreed(work: Work, bytes: &[u8], out: &mut [u8]) -> bool {
     let [port, original] = Side::ALL.map(|side| {
         let answer = measured(side, work.task, bytes, out);
         (answer, out.to_vec())
     });
-    let (Answer { code, words }, _) = port;
+    let (Answer { code, words }, written) = &port;
     let end = bytes.len() as u64;
     let done = match work.task {
         Task::Read | Task::Skip => words[0] == end,
         Task::Normalise => words[0] >= end,
+        Task::Shorten => words[0] <= end,
         Task::Fast => words[0] + (FAST_WINDOW as u64) > end,
     };
-    port == original && code == code::ANSWERED && done
+    let same = match work.task {
+        Task::Shorten => (original::normalise(&written[..words[0] as usize], out), out.to_vec()) == original,
+        _ => port == original,
+    };
+    *code == code::ANSWERED && done && same
 }
 
 /// Not taken apart by the compiler, and found by its name: only what runs in here is counted.
@@ -108,11 +116,12 @@ pub fn stivlaheim_bench_measured(side: Side, task: Task, bytes: &[u8], out: &mut
     match (side, task) {
         (Side::Port, Task::Read) => port::answer(|words| port::count_tokens(bytes, words)),
         (Side::Port, Task::Skip) => port::answer(|words| port::lex(bytes, 0, Call::SkipContainer, words)),
-        (Side::Port, Task::Normalise) => port::answer(|words| port::normalise(bytes, out, words)),
+        (Side::Port, Task::Normalise) => port::answer(|words| port::respell(Spelling::Normal, bytes, out, words)),
+        (Side::Port, Task::Shorten) => port::answer(|words| port::respell(Spelling::Shortest, bytes, out, words)),
         (Side::Port, Task::Fast) => port_steps(bytes),
         (Side::Original, Task::Read) => original::count_tokens(bytes),
         (Side::Original, Task::Skip) => original::skip_container(bytes),
-        (Side::Original, Task::Normalise) => original::normalise(bytes, out),
+        (Side::Original, Task::Normalise | Task::Shorten) => original::normalise(bytes, out),
         (Side::Original, Task::Fast) => original::step_fast(bytes),
     }
 }

@@ -54,6 +54,10 @@ fn what_is_no_request() {
         "write 9 quoted 0 -1 61",
         "write 9 f32 *4",
         "normal 9 *18446744073709551616",
+        "shorten 9 *",
+        "shorten *9 -",
+        "shortest 9 -",
+        "shortest 9 quoted 0 1",
         "dump *1",
         "lex *1 0 read_id",
     ];

@@ -2,7 +2,7 @@
 
 use crate::run::Run;
 use crate::subjects::{Fast, Lex, Sequence, Text, Write};
-use protocol::{Call, Numbers, Op, Source, Token, code};
+use protocol::{Call, Numbers, Op, Source, Spelling, Token, code};
 
 #[derive(Clone, Copy, Debug, PartialEq, Eq)]
 pub enum Listed {
@@ -79,11 +79,13 @@ pub fn show(run: &mut Run) {
         match listed {
             Listed::CursorPastInput => run.show(listed, &Lex::new(&[1, 2], 9, Call::ReadId)),
             Listed::TextPastInput => run.show(listed, &Text::new(&[1, 2], 1, 2)),
-            Listed::BadTextPlace => run.show(listed, &Write::new(&[], 7, &[0, 1, 0, 0, 0], 5)),
-            Listed::LongString => run.show(listed, &Write::token(&Token::Quoted(vec![0; 65_536]), 65_540)),
-            Listed::WideLookup => run.show(listed, &Write::token(&Token::Lookup(1 << 24), 5)),
-            Listed::ReservedId => run.show(listed, &Write::token(&Token::Id(1), 2)),
-            Listed::NoRoom => run.show(listed, &Write::token(&Token::U32(7), 5)),
+            Listed::BadTextPlace => {
+                run.show(listed, &Write::new(Spelling::Normal, &[], 7, &[0, 1, 0, 0, 0], 5));
+            }
+            Listed::LongString => written(run, listed, &Token::Quoted(vec![0; 65_536]), 65_540),
+            Listed::WideLookup => written(run, listed, &Token::Lookup(1 << 24), 5),
+            Listed::ReservedId => written(run, listed, &Token::Id(1), 2),
+            Listed::NoRoom => written(run, listed, &Token::U32(7), 5),
             Listed::ShortWindow => {
                 run.show(listed, &Fast::new(&[0; 8], &[]));
                 run.show(listed, &Fast::new(&[0; 8], &[1, 0]));
@@ -91,6 +93,10 @@ pub fn show(run: &mut Run) {
             Listed::BadSourceState => bad_source_states().iter().for_each(|case| run.show(listed, case)),
         }
     }
+}
+
+fn written(run: &mut Run, listed: Listed, token: &Token, room: usize) {
+    run.show(listed, &Write::token(Spelling::Normal, token, room));
 }
 
 /// Each number that does not fit, in the order in which they are looked at.

@@ -36,6 +36,11 @@ pub fn moved(at: usize, cut: &Range<usize>) -> usize {
     at - cut.end.min(at).saturating_sub(cut.start)
 }
 
+/// Fewer of the bytes, and more of them zero.
+pub fn simpler(bytes: &[u8]) -> impl Iterator<Item = Vec<u8>> {
+    cuts(bytes.len()).map(|cut| without(bytes, &cut)).chain(zeroed(bytes))
+}
+
 /// The bytes with more of them zero.
 pub fn zeroed(bytes: &[u8]) -> impl Iterator<Item = Vec<u8>> {
     let parts = cuts(bytes.len()).filter(|part| bytes[part.clone()].iter().any(|byte| *byte != 0));

@@ -1,14 +1,25 @@
-//! A token in the original's own spelling, and why a token has none.
+//! A token in each spelling, and why a token has none.
 
-use protocol::{Token, code};
+use crate::shortest::shortest;
+use protocol::{Spelling, Token, code};
 
 /// The code of a kind of which the original reads back all that it writes: no answer of the port is like it.
 const NO_REASON: u32 = u32::MAX;
 
-/// What the original writes, if it reads back as the token. Else the refusal of tokens of its kind.
-pub fn spelling(token: &Token) -> Result<Vec<u8>, u32> {
-    let spelling = original::spelling(token);
-    if original::reads_back(token, &spelling) { Ok(spelling) } else { Err(reason(token)) }
+/// What the original writes, if it reads back as the token; or the shortest that it reads as the token. Where there is no
+/// such spelling, the refusal of tokens of its kind.
+pub fn spell(spelling: Spelling, token: &Token) -> Result<Vec<u8>, u32> {
+    let found = match spelling {
+        Spelling::Normal => Some(original::spelling(token)).filter(|written| original::reads_back(token, written)),
+        Spelling::Shortest => shortest(token),
+    };
+    found.ok_or_else(|| reason(token))
+}
+
+/// The room that a token wants in either spelling.
+pub fn need(token: &Token) -> usize {
+    let shortest = spell(Spelling::Shortest, token).map_or(0, |spelling| spelling.len());
+    original::spelling(token).len().max(shortest)
 }
 
 fn reason(token: &Token) -> u32 {

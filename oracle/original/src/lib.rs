@@ -17,7 +17,7 @@ pub use counted::LARGEST_COUNT;
 pub use requests::answer_request;
 pub use scalar::Scalar;
 pub use source::window::{Window, has_op};
-pub use write::{normalise, reads_back, spelling, tokens, write};
+pub use write::{normalise, one_token, reads_back, spelling, tokens, write};
 
 /// Where the files are from.
 pub const ORIGIN: &str = env!("JOMINI_ORIGIN");

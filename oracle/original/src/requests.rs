@@ -1,7 +1,9 @@
 //! The original's answers to requests.
 
 use crate::{FAST_WINDOW, Window, calls, next_token_fast, write};
-use protocol::{Answer, Op, Request, Source, fast_line, kind_line, lex_line, output_line, source_line, split_line};
+use protocol::{
+    Answer, Op, Request, Source, Spelling, fast_line, kind_line, lex_line, output_line, source_line, split_line,
+};
 
 /// Nothing where the original has no such call, or cannot stand there.
 pub fn answer_request(request: &Request) -> Option<String> {
@@ -9,14 +11,14 @@ pub fn answer_request(request: &Request) -> Option<String> {
         Request::Kind(id) => Some(kind_line(calls::kind(*id), calls::is_id(*id))),
         Request::Split { bytes, count } => Some(split_line(bytes, &calls::split(bytes, *count)?)),
         Request::Lex { bytes, at, call } => Some(lex_line(bytes, *call, &calls::lex(bytes, *at, *call)?)),
-        Request::Write { room, token } => {
+        Request::Write { spelling: Spelling::Normal, room, token } => {
             let mut out = vec![0; *room];
             let count = write(&token.token()?, &mut out)?;
             Some(output_line(&Answer::found(count, &[]), &out))
         }
         Request::Fast { held, window } => Some(stepped(*held, window)),
         Request::Source { source, ops } => source_lines(source, ops),
-        Request::Dump { .. } | Request::Normal { .. } => None,
+        Request::Write { spelling: Spelling::Shortest, .. } | Request::Dump { .. } | Request::Save { .. } => None,
     }
 }
 

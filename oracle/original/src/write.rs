@@ -27,6 +27,13 @@ pub fn reads_back(token: &Token, spelling: &[u8]) -> bool {
     found && lexer.remainder().is_empty()
 }
 
+/// The token that all of the bytes are.
+pub fn one_token(bytes: &[u8]) -> Option<Token> {
+    let mut lexer = Lexer::new(bytes);
+    let token = lexer.read_token().ok()?;
+    lexer.remainder().is_empty().then(|| own_token(token))
+}
+
 /// A save's tokens with their places, and how the reading ends, as `count_tokens` has it.
 pub fn tokens(bytes: &[u8]) -> (Vec<(usize, Token)>, Answer) {
     let mut lexer = Lexer::new(bytes);

@@ -8,8 +8,8 @@ const EXAMPLES: &str = include_str!("../../calls/examples");
 const DIFFERENT: [(&str, &str); 2] = [("write 99 lookup 16777216", "ok 5 410d000000"), ("write 99 id 3", "ok 2 0300")];
 
 /// What the original does not answer: it cannot stand past its input or in a state that does not fit, nor hold a text
-/// that is not there; it only fails where there is no room, and has no dump and no normal form.
-const UNANSWERED: [&str; 12] = [
+/// that is not there; it only fails where there is no room, and has no dump, no normal form and no shortest spelling.
+const UNANSWERED: [&str; 24] = [
     "lex 0102 9 read_id",
     "write 5 u32 7",
     "write 0 id 3",
@@ -21,6 +21,18 @@ const UNANSWERED: [&str; 12] = [
     "normal 99 3f0d00000001",
     "normal 0 01283f0d00000001",
     "normal 0 *2147483649",
+    "shortest 2 quoted -",
+    "shortest 99 unquoted -",
+    "shortest 99 lookup 16777216",
+    "shortest 99 f64 0000000000000000",
+    "shortest 99 f64 00ffffffffffffff",
+    "shortest 99 f64 01000000000000ff",
+    "shortest 99 f64 0000000000000080",
+    "shortest 0 id 3410",
+    "shorten 99 0128010003006701fbffffffffffffff670100000000000000000f0000003f0d070000000400",
+    "shorten 17 0128010003006701fbffffffffffffff670100000000000000000f0000003f0d070000000400",
+    "shorten 99 01280f000200",
+    "shorten 0 *2147483649",
     "source state 0102030405060708 8 6 100 aabb 0 f 0 : ensure 3",
 ];
 

@@ -14,7 +14,7 @@ mod writer;
 pub use fast::next_token_fast;
 pub use lexer::{count_tokens, is_id, kind, lex, text};
 pub use requests::answer_request;
-pub use saves::{list, normalise};
+pub use saves::{list, respell};
 pub use source::{Lists, new_source, source};
 pub use split::split;
 pub use writer::write;

@@ -1,7 +1,7 @@
 //! The port's answers to requests.
 
 use crate::source::Window;
-use crate::{answer, is_id, kind, lex, list, next_token_fast, normalise, split, write};
+use crate::{answer, is_id, kind, lex, list, next_token_fast, respell, split, write};
 use protocol::{
     Answer, Got, Handed, Op, Request, Source, code, dump_line, fast_line, kind_line, lex_line, output_line,
     source_line, split_line,
@@ -15,10 +15,13 @@ pub fn answer_request(request: &Request) -> String {
         Request::Kind(id) => kind_line(kind(*id), is_id(*id)),
         Request::Split { bytes, count } => split_line(bytes, &answer(|words| split(bytes, *count, words))),
         Request::Lex { bytes, at, call } => lex_line(bytes, *call, &answer(|words| lex(bytes, *at, *call, words))),
-        Request::Write { room, token } => written(*room, token),
+        Request::Write { spelling, room, token: Handed { kind, words, bytes } } => {
+            let (answer, out) = lending(*room, |out, answer| write(*spelling, bytes, *kind, words, out, answer));
+            output_line(&answer, &out)
+        }
         Request::Dump { bytes } => dumped(bytes),
-        Request::Normal { room, bytes } => {
-            let (answer, out) = lending(*room, |out, words| normalise(bytes, out, words));
+        Request::Save { spelling, room, bytes } => {
+            let (answer, out) = lending(*room, |out, words| respell(*spelling, bytes, out, words));
             output_line(&answer, &out)
         }
         Request::Fast { held, window } => {
@@ -34,11 +37,6 @@ fn lending(room: usize, call: impl FnOnce(&mut [u8], &mut [u64]) -> u32) -> (Ans
     let mut out = vec![0; room.min(LARGEST)];
     let answer = answer(|words| call(&mut out, words));
     (answer, out)
-}
-
-fn written(room: usize, token: &Handed) -> String {
-    let (answer, out) = lending(room, |out, answer| write(&token.bytes, token.kind, &token.words, out, answer));
-    output_line(&answer, &out)
 }
 
 /// Asked twice: for its length, and with room for it.

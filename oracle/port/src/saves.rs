@@ -1,4 +1,6 @@
-//! A whole save into a lent output: its normal form, and its dump.
+//! A whole save into a lent output: in normal form, in its shortest spelling, and its dump.
+
+use protocol::Spelling;
 
 macro_rules! functions {
     ($($(#[$comment:meta])* $name:ident $function:ident,)*) => {
@@ -22,8 +24,17 @@ macro_rules! functions {
     };
 }
 
+/// Each token so.
+pub fn respell(spelling: Spelling, bytes: &[u8], out: &mut [u8], answer: &mut [u64]) -> u32 {
+    match spelling {
+        Spelling::Normal => normalise(bytes, out, answer),
+        Spelling::Shortest => shorten(bytes, out, answer),
+    }
+}
+
 functions! {
     normalise stivlaheim_normalise,
+    shorten stivlaheim_shorten,
     /// The dump's text.
     list stivlaheim_list,
 }

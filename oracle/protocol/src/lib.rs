@@ -7,6 +7,7 @@ mod hex;
 mod request;
 mod show;
 mod source;
+mod spelling;
 mod token;
 
 pub use answer::{Answer, WORDS, code};
@@ -15,4 +16,5 @@ pub use hex::{hex, unhex};
 pub use request::Request;
 pub use show::{dump_line, fast_line, kind_line, lex_line, output_line, split_line};
 pub use source::{Got, Numbers, Op, STATE_WORDS, Source, State, source_line};
+pub use spelling::Spelling;
 pub use token::{Colour, Handed, KINDS, Token};

@@ -1,6 +1,6 @@
 //! The request lines.
 
-use crate::{Call, Colour, Handed, Numbers, Op, Source, Token, unhex};
+use crate::{Call, Colour, Handed, Numbers, Op, Source, Spelling, Token, unhex};
 use std::str::FromStr;
 
 /// A longer one is not understood.
@@ -13,9 +13,9 @@ pub enum Request {
     Kind(u16),
     Split { bytes: Vec<u8>, count: usize },
     Lex { bytes: Vec<u8>, at: usize, call: Call },
-    Write { room: usize, token: Handed },
+    Write { spelling: Spelling, room: usize, token: Handed },
     Dump { bytes: Vec<u8> },
-    Normal { room: usize, bytes: Vec<u8> },
+    Save { spelling: Spelling, room: usize, bytes: Vec<u8> },
     Fast { held: [u8; 8], window: Vec<u8> },
     Source { source: Source, ops: Vec<Op> },
 }
@@ -99,12 +99,22 @@ fn simple(words: &mut Words) -> Option<Request> {
         "kind" => Request::Kind(words.id()?),
         "split" => Request::Split { bytes: words.bytes()?, count: words.number()? },
         "lex" => Request::Lex { bytes: words.bytes()?, at: words.number()?, call: call(words)? },
-        "write" => Request::Write { room: words.number()?, token: token(words)? },
+        "write" => write(words, Spelling::Normal)?,
+        "shortest" => write(words, Spelling::Shortest)?,
         "dump" => Request::Dump { bytes: words.bytes()? },
-        "normal" => Request::Normal { room: words.number()?, bytes: words.bytes_or_zeros()? },
+        "normal" => save(words, Spelling::Normal)?,
+        "shorten" => save(words, Spelling::Shortest)?,
         "fast" => Request::Fast { held: words.array()?, window: words.bytes()? },
         _ => return None,
     })
+}
+
+fn write(words: &mut Words, spelling: Spelling) -> Option<Request> {
+    Some(Request::Write { spelling, room: words.number()?, token: token(words)? })
+}
+
+fn save(words: &mut Words, spelling: Spelling) -> Option<Request> {
+    Some(Request::Save { spelling, room: words.number()?, bytes: words.bytes_or_zeros()? })
 }
 
 fn call(words: &mut Words) -> Option<Call> {

@@ -1,4 +1,4 @@
-//! Tokens with their values, as the `write` request spells them.
+//! Tokens with their values, as the requests for a token spell them.
 
 /// The kinds' names, in TokenKind's order.
 pub const KINDS: [&str; 15] = [
@@ -6,7 +6,7 @@ pub const KINDS: [&str; 15] = [
     "id",
 ];
 
-#[derive(Clone, Copy, Debug, PartialEq, Eq)]
+#[derive(Clone, Copy, Debug, PartialEq, Eq, Hash)]
 pub struct Colour {
     pub r: u32,
     pub g: u32,
@@ -32,7 +32,7 @@ impl Colour {
     }
 }
 
-#[derive(Clone, Debug, PartialEq, Eq)]
+#[derive(Clone, Debug, PartialEq, Eq, Hash)]
 pub enum Token {
     Open,
     Close,

@@ -1,54 +1,43 @@
 -- `normaliser::normalise` meets its contract. Assumes nothing.
 use borrow.Author.Needs.{needs}
-use mathlib.Core.Path.{_≡_, refl, sym, ap, _∙_}
-use mathlib.Core.List.{_++_}
+use mathlib.Core.Path.{ap}
 use native.Mathlib.Omega.{arith}
 use denote.Ref.{now}
-use lib.ListN.{length}
-use Rattle.form.specs.Refusals as R
 use Rattle.form.specs.Saves.{normal}
-use Rattle.form.specs.Writing.{written, declined, outcome, leaves}
-use Rattle.normaliser.proofs.Passing.{unbounded-none}
-use Rattle.normaliser.proofs.Choosing.{none-before, too-long, measured-whole, fitting, no-room, measured-refused}
+use Rattle.form.specs.Writing.{normalise}
+use Rattle.normaliser.specs.Answers.{normalisedOutcome}
+use Rattle.normaliser.specs.Stretches.{normalStyle}
+use Rattle.normaliser.proofs.Choosing.{normalised-refused, too-long, measured-refused, no-room, fitting}
 use Rattle.normaliser.proofs.normalise.Statement.{statement}
 use Rattle.normaliser.proofs.normalise.Tie as tie
 
 returns : tie.Need-returns
-unfolding outcome leaves
-returns c =
-    let a = c .before .before .before .args in
-    rw (too-long (length (now (a .out))) (now (a .bytes)) (c .if1 .taken)) (record { answer = refl; output = refl })
+unfolding normalise normal
+returns c = let a = c .before .before .before .args in too-long normalStyle (now (a .bytes)) (now (a .out)) (c .if1 .taken)
 
 returns-2 : tie.Need-returns-2
+unfolding normalise normal
 returns-2 c =
-    let a = c .before .before .before .before .before .before .before .before .args in
-    let e : c .before .before .before .pass .last .1 .0 ++ now (a .out) ≡ now (a .out) = none-before (c .before .before .before .pass .last .1 .0) (now (a .out)) (c .before .before .out .given .0) in
-    let m = measured-refused (length (now (a .out))) (now (a .bytes)) (c .before .before .before .before .before .if1 .left) (c .before .before .before .pass .result) (now (a .out)) (c .before .before .before .pass .ensures .answer) (c .match .keys2) in
-    record { answer = m .answer; output = e ∙ m .output }
+    let m = c .before .before .before in
+    let a = m .before .before .before .before .before .args in
+    measured-refused normalStyle (now (a .bytes)) (now (a .out)) (m .pass .last .1 .0) (m .before .before .if1 .left) (c .before .before .out .given .0)
+    (m .pass .ensures .answer) (normalised-refused (m .pass .result) (c .match .keys2))
 
 returns-3 : tie.Need-returns-3
-unfolding outcome leaves
+unfolding normalise normal
 returns-3 c =
-    let a = c .before .before .before .before .before .before .before .before .before .before .before .args in
-    let s = now (a .bytes) in
-    let w = measured-whole s (c .before .before .before .before .before .before .pass .result) (c .before .before .measured .given .0 .0) (c .before .before .before .before .before .before .pass .ensures .answer) (c .before .before .measured .given .1) in
-    let e : c .before .before .before .before .before .before .pass .last .1 .0 ++ now (a .out) ≡ now (a .out) = none-before (c .before .before .before .before .before .before .pass .last .1 .0) (now (a .out)) (c .before .before .before .before .before .out .given .0) in
-    let o = no-room (length (now (a .out))) s (c .before .before .before .before .before .before .before .before .if1 .left) (w .0) (omega (arith, ap length e, w .1)) in
-    record { answer = ap (λ n. declined (R.NoRoom n)) (w .1) ∙ sym (ap outcome o); output = e ∙ sym (ap (λ x. leaves x (now (a .out))) o) }
+    let m = c .before .before .before .before .before .before in
+    let a = m .before .before .before .before .before .args in
+    no-room normalStyle (now (a .bytes)) (now (a .out)) (m .pass .last .1 .0) (m .before .before .if1 .left) (c .before .before .before .before .before .out .given .0)
+    (m .pass .ensures .answer) (ap normalisedOutcome (c .before .before .measured .given .1)) (omega arith)
 
 returns-4 : tie.Need-returns-4
-unfolding outcome
+unfolding normalise normal
 returns-4 c =
-    let a = c .before .before .before .before .before .before .before .before .before .before .before .before .before .before .before .args in
-    let s = now (a .bytes) in
-    let w = measured-whole s (c .before .before .before .before .before .before .before .before .before .before .pass .result) (c .before .before .before .before .before .before .measured .given .0 .0) (c .before .before .before .before .before .before .before .before .before .before .pass .ensures .answer) (c .before .before .before .before .before .before .measured .given .1) in
-    let e : c .before .before .before .before .before .before .before .before .before .before .pass .last .1 .0 ++ now (a .out) ≡ now (a .out) = none-before (c .before .before .before .before .before .before .before .before .before .before .pass .last .1 .0) (now (a .out)) (c .before .before .before .before .before .before .before .before .before .out .given .0) in
-    let p = c .before .before .pass2 .ensures in
-    let o = fitting (length (now (a .out))) s (c .before .before .before .before .before .before .before .before .before .before .before .before .if1 .left) (w .0) (omega (arith, ap length e, w .1)) in
-    record {
-      answer = p .answer ∙ ap outcome (unbounded-none s (w .0) ∙ sym o);
-      output = p .bytes (w .0) (omega (arith, w .1)) ∙ ap (leaves (written (normal s))) e ∙ sym (ap (λ x. leaves x (now (a .out))) o);
-    }
+    let m = c .before .before .before .before .before .before .before .before .before .before in
+    let a = m .before .before .before .before .before .args in
+    fitting normalStyle (now (a .bytes)) (now (a .out)) (m .pass .last .1 .0) (m .before .before .if1 .left) (c .before .before .before .before .before .before .before .before .before .out .given .0)
+    (m .pass .ensures .answer) (ap normalisedOutcome (c .before .before .before .before .before .before .measured .given .1)) (omega arith) (c .before .before .pass2 .ensures)
 
 pub normalise-spec : {M : Type 1} → statement M
 normalise-spec =

@@ -4,13 +4,14 @@ use borrow.Author.Needs.{needs}
 use Prim.Native.Nat.{_-_}
 use native.Mathlib.Omega.{arith}
 use lib.ListN.{length}
+use Rattle.normaliser.specs.Stretches.{normalStyle}
 use Rattle.normaliser.proofs.Spelled.{ran-float, ran-lookup, ran-otherwise}
 use Rattle.normaliser.proofs.Passing.{Going, going-start, going-end, bounded, run-there, went-on, float-on, lookup-on, turned, stopped}
 use Rattle.normaliser.proofs.pass.Statement.{statement}
 use Rattle.normaliser.proofs.pass.Tie as tie
 
 abbrev Inv-loop : tie.InvT-loop
-Inv-loop bytes out₀ at₀ need₀ out at need = Going bytes out₀ out at need
+Inv-loop bytes out₀ at₀ need₀ out at need = Going normalStyle bytes out₀ out at need
 
 abbrev μ-loop : tie.MeasureT-loop
 μ-loop bytes out₀ at₀ need₀ out at need = length bytes - at

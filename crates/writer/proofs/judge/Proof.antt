@@ -19,22 +19,25 @@ returns-2 : tie.Need-returns-2
 returns-2 c = rw (c .before .before .p2 .given .1) (c .judge-text .ensures)
 
 returns-3 : tie.Need-returns-3
-returns-3 c = rw (c .before .before .p3 .given .1) (c .judge-lookup .ensures _)
+returns-3 c = rw (c .before .before .p3 .given .1) (c .judge-empty .ensures)
 
 returns-4 : tie.Need-returns-4
-unfolding writeBy misplacedBy reasonBy spelledBy unless outcome
-returns-4 c =
-    let g = c .before .before .before .before .p4 .given in
-    rw (g .1) (c .fit2 .ensures _ (colour-size (g .0 .0) ∙ ap (λ a. 22 + endSize a) (c .before .enum-told .given .1)))
+returns-4 c = rw (c .before .before .p4 .given .1) (c .judge-lookup .ensures _)
 
 returns-5 : tie.Need-returns-5
 unfolding writeBy misplacedBy reasonBy spelledBy unless outcome
 returns-5 c =
-    let g = c .before .before .before .before .p4 .given in
-    rw (g .1) (c .fit3 .ensures _ (colour-size (g .0 .0) ∙ ap (λ a. 22 + endSize a) (c .before .enum-told2 .given .1)))
+    let g = c .before .before .before .before .p5 .given in
+    rw (g .1) (c .fit2 .ensures _ (colour-size (g .0 .0) ∙ ap (λ a. 22 + endSize a) (c .before .enum-told .given .1)))
 
 returns-6 : tie.Need-returns-6
-returns-6 c = rw (c .before .before .p5 .given .1) (c .judge-id .ensures _)
+unfolding writeBy misplacedBy reasonBy spelledBy unless outcome
+returns-6 c =
+    let g = c .before .before .before .before .p5 .given in
+    rw (g .1) (c .fit3 .ensures _ (colour-size (g .0 .0) ∙ ap (λ a. 22 + endSize a) (c .before .enum-told2 .given .1)))
+
+returns-7 : tie.Need-returns-7
+returns-7 c = rw (c .before .before .p6 .given .1) (c .judge-id .ensures _)
 
 pub judge-spec : {M : Type 1} → statement M
 judge-spec =
@@ -42,6 +45,8 @@ judge-spec =
     (tie.spec
     (λ c. search needs)
     (λ c. search needs)
+    (λ c. search needs)
+    (λ c κs. search needs)
     (λ c. search needs)
     (λ c κs. search needs)
     (λ c. search needs)
@@ -60,4 +65,5 @@ judge-spec =
     returns-3
     returns-4
     returns-5
-    returns-6)
+    returns-6
+    returns-7)

@@ -5,7 +5,7 @@ use protocol::{Answer, hex};
 use std::fmt::{Display, Formatter, Result};
 
 /// The calls by their numbers, from 1. The replay has the same table, so that a new call goes to the end.
-pub const CALLS: [&str; 48] = [
+pub const CALLS: [&str; 50] = [
     "into_kind",
     "is_id",
     "get_split",
@@ -54,6 +54,8 @@ pub const CALLS: [&str; 48] = [
     "source_read_rgb",
     "source_from_slice",
     "source_from_reader",
+    "write_shortest",
+    "shorten",
 ];
 
 /// A question with the answer that is expected, without the end of its line.

@@ -49,17 +49,18 @@ fn header(seed: u64) -> String {
 # Answers of {origin}, written by: oracle/run --seed {seed} --record FILE
 # The original answered; the port was not asked. Where it cannot be asked, the answer is FORMAT.md's: it has no call 4, no place past its
 # input (code 7), no refusal of a token that would not read back (32, 33) or for want of room (4), no words that are no token (101), and
-# no step over less than 16 bytes (call 32). Calls 30 and 31 are made from its tokens, in its own spelling and in FORMAT.md's words.
-# It has no state whose numbers do not fit (7) or whose sixth word is over 1 (101): of the calls from 33 on, these answers are FORMAT.md's.
+# no step over less than 16 bytes (call 32). Calls 30 and 31 are made from its tokens, in its own spelling and in FORMAT.md's words, and
+# calls 49 and 50 from its tokens and the shortest bytes that it reads as each of them.
+# It has no state whose numbers do not fit (7) or whose sixth word is over 1 (101): of calls 33 to 48 these answers are FORMAT.md's.
 # CALL AT ARG CODE W0 W1 W2 W3 W4 W5 W6 W7 INPUT, and for the calls from 29 on INPUT/OUTPUT
 # AT: the cursor, a text's start, or how many bytes are lent. ARG: an id, a count, a text's length, or a kind. Either is 0 where the call
 # takes none.
 # CODE: what the C function returns. W0 to W7: the words that it puts into the lent list, 0 where it is lent none, and the largest number
 # where it leaves them (101).
-# INPUT: for call 29 the token's five words, eight bytes each, and the bytes; for call 32 the held bytes and the window; for the calls from
-# 33 on the buffer, the state's six words, in one byte how many entries the schedule has, the entries, four bytes each, and the supply.
-# OUTPUT: what the call leaves at the front of the lent bytes; those after it are as they were. For the calls from 33 on all of the buffer,
-# and the state's words.
+# INPUT: for calls 29 and 49 the token's five words, eight bytes each, and the bytes; for call 32 the held bytes and the window; for calls
+# 33 to 48 the buffer, the state's six words, in one byte how many entries the schedule has, the entries, four bytes each, and the supply.
+# OUTPUT: what the call leaves at the front of the lent bytes; those after it are as they were. For calls 33 to 48 all of the buffer, and
+# the state's words.
 # INPUT and OUTPUT are lower-case hex, - for no bytes. All else is decimal.
 # Calls: {calls}
 "

@@ -4,15 +4,32 @@ use super::entry::Entry;
 use super::sample::{LONGEST, LONGEST_OUTPUT, Sample};
 use crate::case::Case;
 use crate::lent::SeenLent;
+use crate::spelling::spell;
 use crate::stages::{FEW_VALUES, of_number, specimen_requests};
 use crate::subjects::{Fast, Form, Whole, Write};
-use protocol::{Answer, Colour, Request, Token, WORDS, code};
+use protocol::{Answer, Colour, Request, Spelling, Token, WORDS, code};
 use saves::ids::TEXTS;
 use saves::{Flavour, Plan, RESERVED, Rng, bad_colour, flip, narrow, random_bytes, random_ids, save, token};
 
-/// The ends of one to eight bytes, of signed numbers, and of lookups that can be written.
-const ENDS: [u64; 12] =
-    [0, 1, 0xff, 0x100, 0xff_ffff, 0x100_0000, 0x7fff_ffff, 0x8000_0000, 0xffff_ffff, 1 << 56, 1 << 63, u64::MAX];
+/// The ends of one to eight bytes, of signed numbers, of lookups that can be written, and of compact numbers.
+const ENDS: [u64; 16] = [
+    0,
+    1,
+    0xff,
+    0x100,
+    0xff_ffff,
+    0x100_0000,
+    0x7fff_ffff,
+    0x8000_0000,
+    0xffff_ffff,
+    (1 << 56) - 1,
+    1 << 56,
+    1 << 63,
+    (1 << 63) + 1,
+    u64::MAX << 56,
+    (u64::MAX << 56) + 1,
+    u64::MAX,
+];
 
 pub fn all(sample: &mut Sample, seed: u64) {
     let mut rng = Rng::new(seed);
@@ -41,8 +58,11 @@ fn tokens(sample: &mut Sample) {
     }
     for token in tokens {
         let (kind, words) = token.words();
-        for room in rooms(original::spelling(&token).len()) {
-            write(sample, token.text(), kind, words, room);
+        for spelling in Spelling::ALL {
+            let spelled = spell(spelling, &token).unwrap_or_else(|_| original::spelling(&token));
+            for room in rooms(spelled.len()) {
+                write_so(sample, spelling, token.text(), kind, words, room);
+            }
         }
     }
     for id in RESERVED {
@@ -75,7 +95,7 @@ fn places(sample: &mut Sample) {
 
 fn specimens(sample: &mut Sample) {
     for (_, request) in specimen_requests() {
-        if let Request::Normal { bytes, .. } | Request::Dump { bytes } | Request::Lex { bytes, .. } = request {
+        if let Request::Save { bytes, .. } | Request::Dump { bytes } | Request::Lex { bytes, .. } = request {
             whole(sample, &bytes);
         }
     }
@@ -123,22 +143,30 @@ fn steps(sample: &mut Sample, rng: &mut Rng) {
     }
 }
 
-/// The normal form and the dump, at every room that makes a difference.
+/// Both spellings and the dump, at every room that makes a difference.
 fn whole(sample: &mut Sample, bytes: &[u8]) {
     if bytes.len() > LONGEST {
         return;
     }
     for form in Form::ALL {
-        for room in rooms(form.need(bytes)) {
-            add(sample, form.name(), [room, 0], &Whole::new(form, bytes, room).expected(), bytes);
+        let whole = Whole::new(form, bytes, 0);
+        for room in rooms(whole.need()) {
+            add(sample, form.name(), [room, 0], &whole.with_room(room).expected(), bytes);
         }
     }
 }
 
+/// By both writers.
 fn write(sample: &mut Sample, bytes: &[u8], kind: u32, words: [u64; 5], room: usize) {
-    let seen = Write::new(bytes, kind, &words, room).expected();
+    for spelling in Spelling::ALL {
+        write_so(sample, spelling, bytes, kind, words, room);
+    }
+}
+
+fn write_so(sample: &mut Sample, spelling: Spelling, bytes: &[u8], kind: u32, words: [u64; 5], room: usize) {
+    let case = Write::new(spelling, bytes, kind, &words, room);
     let input = [words.map(u64::to_le_bytes).as_flattened(), bytes].concat();
-    add(sample, "write", [room, kind as usize], &seen, &input);
+    add(sample, case.name(), [room, kind as usize], &case.expected(), &input);
 }
 
 fn step(sample: &mut Sample, held: &[u8], window: &[u8]) {

@@ -5,7 +5,7 @@ use crate::case::Case;
 use crate::lent::Lend;
 use crate::run::Run;
 use crate::subjects::{Count, Fast, Form, Lex, Short, Split, Text, Whole, Write};
-use protocol::{Call, WORDS};
+use protocol::{Call, Spelling, WORDS};
 
 pub fn short_lists(run: &mut Run) {
     let bytes = [0x14, 0, 1, 2, 3, 4, 5, 6, 7, 8];
@@ -18,9 +18,11 @@ pub fn short_lists(run: &mut Run) {
     too_short(run, &Text::new(&bytes, 1, 2));
     too_short(run, &Count::new(&bytes));
     for room in [0, 5, 60] {
-        too_short(run, &Write::new(&bytes, 7, &[1, 2, 0, 0, 0], room));
-        too_short(run, &Write::new(&bytes, 7, &[9, 2, 0, 0, 0], room));
-        too_short(run, &Write::new(&bytes, 15, &[], room));
+        for spelling in Spelling::ALL {
+            too_short(run, &Write::new(spelling, &bytes, 7, &[1, 2, 0, 0, 0], room));
+            too_short(run, &Write::new(spelling, &bytes, 7, &[9, 2, 0, 0, 0], room));
+            too_short(run, &Write::new(spelling, &bytes, 15, &[], room));
+        }
         for form in Form::ALL {
             too_short(run, &Whole::new(form, &bytes, room));
         }

@@ -3,8 +3,9 @@
 use super::sweep::every_place;
 use crate::case::Case;
 use crate::dump::dump;
+use crate::lent::SeenLent;
 use crate::run::Run;
-use crate::subjects::{Form, Whole};
+use crate::subjects::{Form, Whole, Write};
 use protocol::{Request, output_line};
 
 /// Request and answer, one specimen a line.
@@ -60,13 +61,14 @@ impl Case for Specimen {
     }
 }
 
-/// The original has no normal form and no dump: they are made from its tokens.
+/// The original has no call for a whole save, no shortest spelling and no dump: they are made from its tokens.
 fn original_line(request: &Request) -> String {
+    let line = |seen: SeenLent| output_line(&seen.seen.answer(), seen.lent());
     match request {
-        Request::Normal { room, bytes } => {
-            let seen = Whole::new(Form::Normal, bytes, *room).expected();
-            output_line(&seen.seen.answer(), seen.lent())
+        Request::Write { spelling, room, token } => {
+            line(Write::new(*spelling, &token.bytes, token.kind, &token.words, *room).expected())
         }
+        Request::Save { spelling, room, bytes } => line(Whole::new(Form::Spelled(*spelling), bytes, *room).expected()),
         Request::Dump { bytes } => dump(bytes).trim_end().replace('\n', " | "),
         _ => original::answer_request(request).expect("the original has the call"),
     }

@@ -1,7 +1,8 @@
-//! The normal form and the dump of whole saves, and the fast step along them.
+//! Whole saves in both spellings and their dump, and the fast step along them.
 
 use crate::run::Run;
-use crate::subjects::{Fast, Form, Limit, Whole};
+use crate::subjects::{Fast, Form, Kept, Limit, Whole};
+use protocol::Spelling;
 use saves::ids::TEXTS;
 use saves::{Flavour, Plan, Rng, bad_colour, flip, narrow, random_bytes, random_ids, save};
 
@@ -117,10 +118,12 @@ fn middling(run: &mut Run, rng: &mut Rng, flavour: Flavour) {
 /// Without room, with a byte too few, with just enough, and with one more.
 pub fn one_save(run: &mut Run, bytes: &[u8]) {
     for form in Form::ALL {
-        for room in rooms(form.need(bytes)) {
-            run.check(&Whole::new(form, bytes, room));
+        let whole = Whole::new(form, bytes, 0);
+        for room in rooms(whole.need()) {
+            run.check(&whole.with_room(room));
         }
     }
+    run.check(&Kept::new(bytes));
 }
 
 fn rooms(need: usize) -> impl Iterator<Item = usize> {
@@ -146,7 +149,9 @@ fn limits(run: &mut Run) {
     for at in (0..Limit::LONGEST).step_by(4 + TEXT) {
         bytes[at..at + 4].copy_from_slice(&[0x0f, 0, 0xfc, 0xff]);
     }
-    run.check(&Limit { form: Form::Normal, bytes: &bytes[..Limit::LONGEST] });
+    for spelling in Spelling::ALL {
+        run.check(&Limit { form: Form::Spelled(spelling), bytes: &bytes[..Limit::LONGEST] });
+    }
     for form in Form::ALL {
         run.check(&Limit { form, bytes: &bytes });
     }

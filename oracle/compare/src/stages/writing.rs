@@ -1,8 +1,9 @@
-//! The writer: every kind at every room, and what it refuses.
+//! Both writers: every kind at every room, and what they refuse.
 
 use crate::run::Run;
+use crate::spelling::need;
 use crate::subjects::Write;
-use protocol::{Colour, Token};
+use protocol::{Colour, Spelling, Token};
 use saves::{Flavour, Plan, Rng, save};
 
 /// Kinds that have no name, of which some have one in their low byte.
@@ -42,13 +43,15 @@ pub fn of_number(number: u64) -> [Token; 8] {
     ]
 }
 
-/// Each kind with the ends of its values, the ends of each byte of them, and some from the seed.
+/// Each kind with the ends of its values, the ends of each byte of them, also negated, and some from the seed.
 fn values(rng: &mut Rng) -> Vec<Token> {
-    let mut numbers: Vec<u64> =
-        (0..64).step_by(8).flat_map(|bits| [1 << bits, (1 << bits) - 1, 0x80 << bits]).collect();
-    numbers.extend([(1 << 24) - 2, (1 << 24) + 1, i32::MIN as u64, i32::MAX as u64, u32::MAX.into()]);
-    numbers.extend([u64::MAX, i64::MIN as u64, i64::MAX as u64, 0x0102_0304_0506_0708]);
+    let ends = (8..64).step_by(8).map(|bits| 1u64 << bits);
+    let about = |end: u64| [end - 2, end - 1, end, end + 1, 0x80 * end];
+    let mut numbers: Vec<u64> = ends.flat_map(about).chain([0, 1, 0x80]).collect();
+    numbers.extend([i32::MIN as u64, i32::MAX as u64, u32::MAX.into(), i64::MAX as u64, 0x0102_0304_0506_0708]);
     numbers.extend((0..64).map(|_| rng.any_size()));
+    let negated: Vec<u64> = numbers.iter().map(|number| number.wrapping_neg()).collect();
+    numbers.extend(negated);
     let mut tokens = FEW_VALUES.to_vec();
     for number in numbers {
         tokens.extend(of_number(number));
@@ -63,10 +66,22 @@ fn values(rng: &mut Rng) -> Vec<Token> {
     tokens
 }
 
+/// By both writers.
+fn write(run: &mut Run, bytes: &[u8], kind: u32, words: &[u64], room: usize) {
+    for spelling in Spelling::ALL {
+        run.check(&Write::new(spelling, bytes, kind, words, room));
+    }
+}
+
+fn write_token(run: &mut Run, token: &Token, room: usize) {
+    let (kind, words) = token.words();
+    write(run, token.text(), kind, &words, room);
+}
+
 /// From no room to one byte more than is needed.
 fn every_room(run: &mut Run, token: &Token) {
-    for room in 0..=original::spelling(token).len() + 1 {
-        run.check(&Write::token(token, room));
+    for room in 0..=need(token) + 1 {
+        write_token(run, token, room);
     }
 }
 
@@ -85,7 +100,7 @@ fn long_texts(run: &mut Run) {
         let tokens = [Token::Quoted(text.clone()), Token::Unquoted(text)];
         for room in rooms {
             for token in &tokens {
-                run.check(&Write::token(token, room));
+                write_token(run, token, room);
             }
         }
     }
@@ -99,8 +114,8 @@ fn places(run: &mut Run) {
         for start in ends {
             for len in ends {
                 for room in [0, 3, 4, 5, 12, 13, 14] {
-                    run.check(&Write::new(&bytes, kind, &[start, len, 0, 0, 0], room));
-                    run.check(&Write::new(&[], kind, &[start, len, 0, 0, 0], room));
+                    write(run, &bytes, kind, &[start, len, 0, 0, 0], room);
+                    write(run, &[], kind, &[start, len, 0, 0, 0], room);
                 }
             }
         }
@@ -108,8 +123,8 @@ fn places(run: &mut Run) {
     let long = vec![7; 65_537];
     for (start, len) in [(0, 65_537), (1, 65_536), (2, 65_536), (65_537, 65_536), (2, 65_535), (3, 65_535)] {
         for room in [0, 4, 65_540] {
-            run.check(&Write::new(&long, 7, &[start, len, 0, 0, 0], room));
-            run.check(&Write::new(&long, 8, &[start, len, 0, 0, 0], room));
+            write(run, &long, 7, &[start, len, 0, 0, 0], room);
+            write(run, &long, 8, &[start, len, 0, 0, 0], room);
         }
     }
 }
@@ -119,7 +134,7 @@ fn no_tokens(run: &mut Run) {
     for room in [0, 40] {
         for kind in (0..15).chain(NO_KINDS) {
             for count in 0..=5 {
-                run.check(&Write::new(&[1, 2], kind, &[1, 1, 1, 1, 1][..count], room));
+                write(run, &[1, 2], kind, &[1, 1, 1, 1, 1][..count], room);
             }
         }
         let highs = [1 << 8, 1 << 16, 1 << 31, 1 << 32, (1 << 32) + 1, 1 << 63, u64::MAX];
@@ -127,12 +142,12 @@ fn no_tokens(run: &mut Run) {
         let signed = [i32::MIN.into(), i32::MAX.into(), i64::from(i32::MIN) - 1, i64::from(i32::MAX) + 1, -1, i64::MIN];
         for word in highs.into_iter().chain(lows).chain(signed.map(i64::cast_unsigned)) {
             for kind in (0..15).filter(|kind| ![7, 8].contains(kind)) {
-                run.check(&Write::new(&[], kind, &[word, 0, 0, 0, 0], room));
+                write(run, &[], kind, &[word, 0, 0, 0, 0], room);
             }
             for at in 1..5 {
                 let mut colour = [1, 2, 3, 1, 4];
                 colour[at] = word;
-                run.check(&Write::new(&[], 11, &colour, room));
+                write(run, &[], 11, &colour, room);
             }
         }
     }
@@ -151,8 +166,8 @@ fn more_words(run: &mut Run, rng: &mut Rng) {
         let mut more = words.to_vec();
         more[own..].fill(ANYTHING);
         more.resize(5 + rng.below(4), ANYTHING);
-        run.check(&Write::new(token.text(), kind, &more, rng.below(40)));
-        run.check(&Write::new(token.text(), kind, &more, 400));
+        write(run, token.text(), kind, &more, rng.below(40));
+        write(run, token.text(), kind, &more, 400);
     }
 }
 
@@ -161,9 +176,9 @@ fn parts_of_a_save(run: &mut Run, rng: &mut Rng, flavour: Flavour) {
     let bytes = save(Plan { flavour, size: 4000, longest_text: 300 }, rng);
     for (at, token) in original::tokens(&bytes).0 {
         let read = original::lex(&bytes, at, protocol::Call::ReadToken).expect("a place in the input");
-        let need = original::spelling(&token).len();
+        let need = need(&token);
         for room in [0, need - 1, need, need + 1, rng.below(2 * need)] {
-            run.check(&Write::new(&bytes, read.words[1] as u32, &read.words[2..7], room));
+            write(run, &bytes, read.words[1] as u32, &read.words[2..7], room);
         }
     }
 }

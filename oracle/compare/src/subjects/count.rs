@@ -2,7 +2,7 @@
 
 use crate::case::{Ask, Case, Seen};
 use crate::record::{Entry, Recorded};
-use crate::shrink::{cuts, without, zeroed};
+use crate::shrink::simpler;
 use protocol::hex;
 use std::borrow::Cow;
 
@@ -36,8 +36,7 @@ impl Case for Count<'_> {
     }
 
     fn smaller(&self) -> impl Iterator<Item = Self> {
-        let shorter = cuts(self.0.len()).map(|cut| without(&self.0, &cut));
-        shorter.chain(zeroed(&self.0)).map(|bytes| Count(Cow::Owned(bytes)))
+        simpler(&self.0).map(|bytes| Count(Cow::Owned(bytes)))
     }
 
     fn request(&self) -> String {

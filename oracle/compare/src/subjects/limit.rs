@@ -1,4 +1,4 @@
-//! Saves about the longest that the normaliser and the listing take, which the original does not limit.
+//! Saves about the longest that the calls on a whole save take, which the original does not limit.
 
 use super::Form;
 use crate::case::Case;

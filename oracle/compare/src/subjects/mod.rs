@@ -2,6 +2,7 @@
 
 mod count;
 mod fast;
+mod kept;
 mod kind;
 mod lexer;
 mod limit;
@@ -15,6 +16,7 @@ mod write;
 
 pub use count::Count;
 pub use fast::Fast;
+pub use kept::Kept;
 pub use kind::Kind;
 pub use lexer::Lex;
 pub use limit::Limit;

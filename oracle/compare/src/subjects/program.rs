@@ -3,9 +3,9 @@
 use crate::case::Case;
 use crate::dump::dump;
 use crate::lent::shortened;
-use crate::normal::normal_form;
+use crate::respelled::respelled;
 use crate::shrink::{cuts, without, zeroed};
-use protocol::{code, hex};
+use protocol::{Spelling, code, hex};
 use std::borrow::Cow;
 use std::io::{ErrorKind, Write};
 use std::path::{Path, PathBuf};
@@ -44,7 +44,7 @@ impl Program {
         }
         match self {
             Program::Dump => dump(bytes).into_bytes(),
-            Program::Normal => normal_form(bytes).unwrap_or_else(|refused| {
+            Program::Normal => respelled(Spelling::Normal, bytes).unwrap_or_else(|refused| {
                 let name = match refused.code {
                     code::EOF => "eof",
                     code::INVALID_RGB => "rgb",

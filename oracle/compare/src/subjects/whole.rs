@@ -4,31 +4,33 @@ use crate::case::Case;
 use crate::dump::dump;
 use crate::lent::{Lend, SeenLent, output};
 use crate::listed::Listed;
-use crate::normal::normal_form;
+use crate::respelled::respelled;
 use crate::shrink::{cuts, less, without, zeroed};
-use protocol::{Answer, dump_line, hex, output_line};
+use protocol::{Answer, Spelling, dump_line, hex, output_line};
 use std::borrow::Cow;
+use std::cell::OnceCell;
 
 #[derive(Clone, Copy, Debug, PartialEq, Eq)]
 pub enum Form {
-    Normal,
+    Spelled(Spelling),
     Dump,
 }
 
 impl Form {
-    pub const ALL: [Form; 2] = [Form::Normal, Form::Dump];
+    pub const ALL: [Form; 3] = [Form::Spelled(Spelling::Normal), Form::Spelled(Spelling::Shortest), Form::Dump];
 
     /// The port's function.
     pub fn name(self) -> &'static str {
         match self {
-            Form::Normal => "normalise",
+            Form::Spelled(Spelling::Normal) => "normalise",
+            Form::Spelled(Spelling::Shortest) => "shorten",
             Form::Dump => "list",
         }
     }
 
     pub fn by_port(self, bytes: &[u8], out: &mut [u8], answer: &mut [u64]) -> u32 {
         match self {
-            Form::Normal => port::normalise(bytes, out, answer),
+            Form::Spelled(spelling) => port::respell(spelling, bytes, out, answer),
             Form::Dump => port::list(bytes, out, answer),
         }
     }
@@ -36,14 +38,9 @@ impl Form {
     /// Made from the original's tokens.
     fn expected(self, bytes: &[u8]) -> Result<Vec<u8>, Answer> {
         match self {
-            Form::Normal => normal_form(bytes),
+            Form::Spelled(spelling) => respelled(spelling, bytes),
             Form::Dump => Ok(dump(bytes).into_bytes()),
         }
-    }
-
-    /// The room that it wants; where it is refused, as much as the save has.
-    pub fn need(self, bytes: &[u8]) -> usize {
-        self.expected(bytes).map_or(bytes.len(), |made| made.len())
     }
 }
 
@@ -52,15 +49,30 @@ pub struct Whole<'a> {
     form: Form,
     bytes: Cow<'a, [u8]>,
     room: usize,
+    /// What should be made of them, once it was asked for.
+    made: OnceCell<Result<Vec<u8>, Answer>>,
 }
 
 impl<'a> Whole<'a> {
     pub fn new(form: Form, bytes: &'a [u8], room: usize) -> Whole<'a> {
-        Whole { form, bytes: Cow::Borrowed(bytes), room }
+        Whole { form, bytes: Cow::Borrowed(bytes), room, made: OnceCell::new() }
     }
 
     fn with(&self, bytes: Vec<u8>) -> Whole<'a> {
-        Whole { bytes: Cow::Owned(bytes), ..*self }
+        Whole { bytes: Cow::Owned(bytes), made: OnceCell::new(), ..*self }
+    }
+
+    pub fn with_room(&self, room: usize) -> Whole<'a> {
+        Whole { room, ..self.clone() }
+    }
+
+    fn made(&self) -> &Result<Vec<u8>, Answer> {
+        self.made.get_or_init(|| self.form.expected(&self.bytes))
+    }
+
+    /// The room that it wants; where it is refused, as much as the save has.
+    pub fn need(&self) -> usize {
+        self.made().as_ref().map_or(self.bytes.len(), Vec::len)
     }
 }
 
@@ -82,9 +94,9 @@ impl Case for Whole<'_> {
     }
 
     fn expected(&self) -> SeenLent {
-        match self.form.expected(&self.bytes) {
-            Ok(made) => SeenLent::whole(self, self.room, &made),
-            Err(refused) => SeenLent::answered(self, refused),
+        match self.made() {
+            Ok(made) => SeenLent::whole(self, self.room, made),
+            Err(refused) => SeenLent::answered(self, *refused),
         }
     }
 
@@ -92,31 +104,31 @@ impl Case for Whole<'_> {
         SeenLent::port(self)
     }
 
-    /// The original has no normaliser; its writer would write low bytes of the one, and a part of the other.
+    /// The original has no call for a whole save; its writer would write low bytes of a token, and a part of another.
     fn listed(&self) -> Option<Listed> {
-        if self.form != Form::Normal {
-            return None;
+        match self.form {
+            Form::Spelled(_) => Listed::of_writing(self.expected().seen.code),
+            Form::Dump => None,
         }
-        Listed::of_writing(self.expected().seen.code)
     }
 
     fn smaller(&self) -> impl Iterator<Item = Self> {
         let shorter = cuts(self.bytes.len()).map(|cut| self.with(without(&self.bytes, &cut)));
-        let rooms = less(self.room).map(|room| Whole { room, ..self.clone() });
+        let rooms = less(self.room).map(|room| self.with_room(room));
         let plainer = zeroed(&self.bytes).map(|bytes| self.with(bytes));
         shorter.chain(rooms).chain(plainer)
     }
 
     fn request(&self) -> String {
         match self.form {
-            Form::Normal => format!("normal {} {}", self.room, hex(&self.bytes)),
+            Form::Spelled(spelling) => format!("{} {} {}", spelling.of_save(), self.room, hex(&self.bytes)),
             Form::Dump => format!("dump {} with room for {}", hex(&self.bytes), self.room),
         }
     }
 
     fn show(&self, seen: &SeenLent) -> String {
         let line = match self.form {
-            Form::Normal => output_line(&seen.seen.answer(), seen.lent()),
+            Form::Spelled(_) => output_line(&seen.seen.answer(), seen.lent()),
             Form::Dump => dump_line(&seen.seen.answer(), seen.lent()),
         };
         format!("{line}   words {}", seen.raw(self))

@@ -1,16 +1,17 @@
-//! One token into a lent output.
+//! One token into a lent output, by either writer.
 
 use crate::case::Case;
 use crate::dump::spelled;
 use crate::lent::{Lend, SHORTENED, SeenLent, output, shortened};
 use crate::listed::Listed;
 use crate::shrink::{cuts, less, without};
-use crate::spelling::spelling;
-use protocol::{Answer, KINDS, Token, code, hex, output_line};
+use crate::spelling::spell;
+use protocol::{Answer, KINDS, Spelling, Token, code, hex, output_line};
 use std::borrow::Cow;
 
 #[derive(Clone)]
 pub struct Write<'a> {
+    spelling: Spelling,
     /// A string's text is a part of these.
     bytes: Cow<'a, [u8]>,
     kind: u32,
@@ -29,14 +30,14 @@ enum Given {
 const STRINGS: [u32; 2] = [7, 8];
 
 impl<'a> Write<'a> {
-    pub fn new(bytes: &'a [u8], kind: u32, words: &[u64], room: usize) -> Write<'a> {
-        Write { bytes: Cow::Borrowed(bytes), kind, words: words.to_vec(), room }
+    pub fn new(spelling: Spelling, bytes: &'a [u8], kind: u32, words: &[u64], room: usize) -> Write<'a> {
+        Write { spelling, bytes: Cow::Borrowed(bytes), kind, words: words.to_vec(), room }
     }
 
     /// A string's text is all of the bytes.
-    pub fn token(token: &'a Token, room: usize) -> Write<'a> {
+    pub fn token(spelling: Spelling, token: &'a Token, room: usize) -> Write<'a> {
         let (kind, words) = token.words();
-        Write::new(token.text(), kind, &words, room)
+        Write::new(spelling, token.text(), kind, &words, room)
     }
 
     fn given(&self) -> Given {
@@ -92,7 +93,7 @@ impl Lend for Write<'_> {
     }
 
     fn ask(&self, lent: &mut [u8], answer: &mut [u64]) -> u32 {
-        port::write(&self.bytes, self.kind, &self.words, lent, answer)
+        port::write(self.spelling, &self.bytes, self.kind, &self.words, lent, answer)
     }
 }
 
@@ -100,7 +101,10 @@ impl Case for Write<'_> {
     type Seen = SeenLent;
 
     fn name(&self) -> &'static str {
-        "write"
+        match self.spelling {
+            Spelling::Normal => "write",
+            Spelling::Shortest => "write_shortest",
+        }
     }
 
     fn expected(&self) -> SeenLent {
@@ -108,7 +112,7 @@ impl Case for Write<'_> {
         match self.given() {
             Given::NoToken => SeenLent::untouched(self, code::BAD_ARGUMENT),
             Given::BadPlace(start) => refused(code::BAD_PLACE, start),
-            Given::Token(token) => match spelling(&token) {
+            Given::Token(token) => match spell(self.spelling, &token) {
                 Ok(spelling) => SeenLent::whole(self, self.room, &spelling),
                 Err(code) => refused(code, 0),
             },
@@ -143,14 +147,14 @@ impl Case for Write<'_> {
     }
 
     fn request(&self) -> String {
-        let room = self.room;
+        let (request, room) = (self.spelling.of_token(), self.room);
         if let Some(token) = self.token_words() {
-            return format!("write {room} {token}");
+            return format!("{request} {room} {token}");
         }
         let name = KINDS.get(self.kind as usize).copied().unwrap_or("no kind");
         let words: Vec<String> = self.words.iter().map(u64::to_string).collect();
         let (kind, words) = (self.kind, words.join(" "));
-        format!("write {room} {name}, as kind {kind}, words {words}, bytes {}", shortened(&self.bytes))
+        format!("{request} {room} {name}, as kind {kind}, words {words}, bytes {}", shortened(&self.bytes))
     }
 
     fn show(&self, seen: &SeenLent) -> String {

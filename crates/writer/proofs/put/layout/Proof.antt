@@ -23,6 +23,10 @@ id-text-requires c κs =
     rw (c .before .text-part .ensures)
     (omega (arith, rw (g .1) at (c .before .before .before .before .before .before .before .pre), text-size (g .0 .0 .0) (partOf (now (c .before .before .before .before .before .before .before .args .bytes)) (g .0 .1 .0))))
 
+id-requires : tie.Need-id-requires
+unfolding spelledBy
+id-requires c κs = omega (arith, rw (c .before .enum-told .given .1) at (c .before .before .before .before .before .pre), length-bytes 2 0x0d42)
+
 id-number-requires-2 : tie.Need-id-number-requires-2
 unfolding spelledBy
 id-number-requires-2 c κs =
@@ -33,9 +37,9 @@ id-colour-requires : tie.Need-id-colour-requires
 unfolding spelledBy
 id-colour-requires c κs = rw (c .before .before .p4 .given .1) at (c .before .before .before .before .before .before .pre)
 
-id-requires : tie.Need-id-requires
+id-requires-2 : tie.Need-id-requires-2
 unfolding spelledBy
-id-requires c κs = omega (arith, rw (c .before .before .before .p5 .given .1) at (c .before .before .before .before .before .before .before .pre), length-bytes 2 (c .before .before .before .p5 .given .0 .0))
+id-requires-2 c κs = omega (arith, rw (c .before .before .before .p5 .given .1) at (c .before .before .before .before .before .before .before .pre), length-bytes 2 (c .before .before .before .p5 .given .0 .0))
 
 returns : tie.Need-returns
 unfolding spelledBy
@@ -47,15 +51,19 @@ returns-2 c = rw (c .before .before .before .before .before .before .p2 .given .
 
 returns-3 : tie.Need-returns-3
 unfolding spelledBy
-returns-3 c = rw (c .before .before .before .before .before .p3 .given .1) (c .before .before .id-number2 .ensures)
+returns-3 c = rw (c .before .before .before .before .enum-told .given .1) (c .before .before .id .ensures)
 
 returns-4 : tie.Need-returns-4
 unfolding spelledBy
-returns-4 c = rw (c .before .before .before .before .before .p4 .given .1) (c .before .before .id-colour .ensures)
+returns-4 c = rw (c .before .before .before .before .before .p3 .given .1) (c .before .before .id-number2 .ensures)
 
 returns-5 : tie.Need-returns-5
 unfolding spelledBy
-returns-5 c = rw (c .before .before .before .before .before .before .p5 .given .1, sym (c .before .before .before .new .ensures)) (c .before .before .id .ensures)
+returns-5 c = rw (c .before .before .before .before .before .p4 .given .1) (c .before .before .id-colour .ensures)
+
+returns-6 : tie.Need-returns-6
+unfolding spelledBy
+returns-6 c = rw (c .before .before .before .before .before .before .p5 .given .1, sym (c .before .before .before .new .ensures)) (c .before .before .id2 .ensures)
 
 pub layout-spec : {M : Type 1} → statement M
 layout-spec =
@@ -68,13 +76,15 @@ layout-spec =
     (λ c κs. search needs)
     id-text-requires
     (λ c. search needs)
+    id-requires
+    (λ c. search needs)
     (λ c. search needs)
     id-number-requires-2
     (λ c. search needs)
     id-colour-requires
     (λ c. search needs)
     (λ c κs. search needs)
-    id-requires
+    id-requires-2
     (λ c. search needs)
     returns
     (λ c. search needs)
@@ -84,4 +94,6 @@ layout-spec =
     (λ c. search needs)
     returns-4
     (λ c. search needs)
-    returns-5)
+    returns-5
+    (λ c. search needs)
+    returns-6)
