@@ -1,11 +1,12 @@
 /*
- * Prints the tokens of a save, and writes its normal form and its shortest spelling. C99 and C++ alike; examples/check compiles it as both,
- * and runs it.
+ * Prints the tokens of a save, and writes its normal form and its shortest spelling; or prints where a key stands. C99 and C++ alike;
+ * examples/check compiles it as both, and runs it.
  *
  *     tokens SAVE [NORMAL-FORM [SHORTEST]]
+ *     tokens --key ID SAVE
  *
  * A line for each token: its position, its kind, its value. A text stands in quotes, with the bytes that are not printable ASCII, and quotes
- * and backslashes, as \xNN. A float is its bytes in hex, the lowest first. The exit status is 0 if all is well; 1 if the save is refused, and
+ * and backslashes, as \xNN. A float is its bytes in hex, the lowest first. Of a key: its position, or `none`. The exit status is 0 if all is well; 1 if the save is refused, and
  * standard error has the refusal; 2 if something cannot be read or written.
  */
 #include <errno.h>
@@ -205,10 +206,52 @@ static int write_spelled(const struct save *save, const char *name, spelling *sp
     return status;
 }
 
+/* ---- a key */
+
+/* Nothing after the token that follows the key is looked at: a save that is damaged there has the same answer. */
+static int print_key(const struct save *save, uint16_t id) {
+    uint64_t answer[STIVLAHEIM_WORDS] = {0};
+    uint32_t code = stivlaheim_find_key(save->bytes, save->len, 0, id, answer, STIVLAHEIM_WORDS);
+    if (code == STIVLAHEIM_ANSWERED) {
+        printf("%" PRIu64 "\n", answer[1]);
+    } else if (code == STIVLAHEIM_NONE) {
+        puts("none");
+    } else {
+        return refused(save, code, answer[1]);
+    }
+    if (fflush(stdout) != 0 || ferror(stdout)) {
+        return failed("cannot write", "the position");
+    }
+    return WELL;
+}
+
+static int usage(void) {
+    fputs("tokens SAVE [NORMAL-FORM [SHORTEST]], or tokens --key ID SAVE\n", stderr);
+    return FAILED;
+}
+
+/* The id is decimal, or hex after 0x. */
+static int find_key(const char *word, const char *name) {
+    char *end = NULL;
+    unsigned long id = strtoul(word, &end, 0);
+    if (end == word || *end != '\0' || id > 0xffff) {
+        return usage();
+    }
+    struct save save = {name, NULL, 0};
+    int status = read_save(&save);
+    if (status == WELL) {
+        status = print_key(&save, (uint16_t)id);
+    }
+    free(save.bytes);
+    return status;
+}
+
 int main(int count, char **arguments) {
+    if (count > 1 && strcmp(arguments[1], "--key") == 0) {
+        return count == 4 ? find_key(arguments[2], arguments[3]) : usage();
+    }
     if (count < 2 || count > 4) {
-        fputs("tokens SAVE [NORMAL-FORM [SHORTEST]]\n", stderr);
-        return FAILED;
+        return usage();
     }
     struct save save = {arguments[1], NULL, 0};
     int status = read_save(&save);

@@ -105,7 +105,7 @@ uint32_t stivlaheim_text(const uint8_t *bytes, size_t bytes_len, size_t start, s
 /* ---- The lexer: each call begins at the cursor `at`, and word 0 is the cursor to go on with.
  *
  * A cursor past the bytes is refused first, with BAD_PLACE. A refused read leaves the cursor where it began, and that is the refusal's
- * position. A refused skip leaves it where the read began that failed, and that is the position. */
+ * position. A refused skip leaves it where the read began that failed, and that is the position. find_key never moves it. */
 
 /* The next token. */
 uint32_t stivlaheim_read_token(const uint8_t *bytes, size_t bytes_len, size_t at, uint64_t *answer, size_t answer_len);
@@ -172,6 +172,12 @@ uint32_t stivlaheim_skip_value(const uint8_t *bytes, size_t bytes_len, size_t at
 
 /* From inside a container to the place after its Close. It has no words. */
 uint32_t stivlaheim_skip_container(const uint8_t *bytes, size_t bytes_len, size_t at, uint64_t *answer, size_t answer_len);
+
+/* The position of the first key that is the plain id `id`, from the cursor on; the cursor stays. A key is a token other than Open, Close and
+ * Equal, outside of every container that begins after the cursor, directly followed by Equal. NONE if the id is no key and all was read; EOF
+ * or INVALID_RGB, with the position of the refused token, if it is none before that. No byte after the token that follows the key is
+ * looked at. */
+uint32_t stivlaheim_find_key(const uint8_t *bytes, size_t bytes_len, size_t at, uint16_t id, uint64_t *answer, size_t answer_len);
 
 /* The part that is left; the cursor stays. */
 uint32_t stivlaheim_remainder(const uint8_t *bytes, size_t bytes_len, size_t at, uint64_t *answer, size_t answer_len);

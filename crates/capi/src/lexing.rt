@@ -4,6 +4,7 @@ ghost use Rattle.form.specs.Readers.{at as readAt};
 ghost use Rattle.form.specs.Reading.{num, rgb};
 ghost use Rattle.form.specs.Skipping.{skipContainer, skipValue};
 ghost use Rattle.form.specs.Calls.{reads, nexts, peeks, skips};
+ghost use Rattle.form.specs.Finding.{finds};
 ghost use Rattle.token.specs.Tokens.{tokenAt};
 ghost use Rattle.lexer.specs.Calls.{boolAt, i32At, i64At, stringAt, bytesAt, remainderOf};
 ghost use Rattle.capi.specs.Replies.{cursor, replyOf, replyOrNone, returned, into};
@@ -228,5 +229,17 @@ pub extern "C" fn stivlaheim_skip_value(bytes: &[u8], at: usize, id: u16, answer
     replies::store(
         answer,
         lexer_replies::of_skip(c.skip_value(bytes, LexemeId(id))),
+    )
+}
+
+// The position of the first key that is a plain id, from the cursor on; none if it is no key.
+#[no_mangle]
+pub extern "C" fn stivlaheim_find_key(bytes: &[u8], at: usize, id: u16, answer: &mut [u64]) -> u32
+    ensures { λ r. ⌜ returned r (now (answer .exit)) ≡ into (now (answer .entry)) (replyOrNone numberWords (finds id (now (bytes .entry)) (cursor at))) ⌝ }
+{
+    let c = Lexer { at };
+    replies::store(
+        answer,
+        lexer_replies::of_find(c, c.find_key(bytes, LexemeId(id))),
     )
 }

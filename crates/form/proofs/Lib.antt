@@ -16,6 +16,11 @@ pub mod Least
 pub mod Standing
 pub mod TextsLast
 pub mod Walking
+pub mod Local
+pub mod Tests
+pub mod ById
+pub mod FirstKey
+pub mod Seeking
 pub mod SkipSteps
 pub mod FastAgrees
 pub mod SpelledAnew

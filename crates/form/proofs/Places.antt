@@ -1,5 +1,5 @@
 -- Reading at a place: the laws that the code's proofs go by. Assumes nothing.
-use Prim.Native.Nat.{ℕ, _+_, _-_, _^_, _≤_, _<_}
+use Prim.Native.Nat.{ℕ, _+_, _-_, _^_, _≤_, _<_, zero-le}
 use native.Mathlib.Nat.{add-zero, add-assoc}
 use native.Mathlib.Omega.{arith}
 use mathlib.Core.Path.{_≡_, refl, sym, ap, _∙_}
@@ -15,7 +15,7 @@ use mir.Val.{Fits}
 use Rattle.form.specs.Numbers.{pick, le}
 use Rattle.form.specs.Refusals.{Fault, tooShort, badColour}
 use Rattle.form.specs.Values.{Value, Rgb}
-use Rattle.form.specs.Table.{Payload, after}
+use Rattle.form.specs.Table.{Payload, nothing, after}
 use Rattle.form.specs.Ids.{CLOSE, CHANNEL}
 use Rattle.form.specs.Readers.{Answer, found, refused, Reader, further, andThen, mapped, _followed-by_, _giving_, give, refuse, at, placed}
 use Rattle.form.specs.Reading.{next, num, string, channel, withAlpha, ending, headed, judged, rgb, payload, token}
@@ -112,6 +112,11 @@ module _ (w : ℕ) (s : List ℕ) (p : ℕ) where
 
   pub num-lt : ((i : ℕ) → Fits w8 (getD s i 0)) → {x n : ℕ} → at (num w) s p ≡ found x n → x < 256 ^ w
   num-lt b e = rw (took e .value) (le-take-lt w (drop p s) (drop-bytes p s (bytes-all s b)))
+
+-- where nothing follows an id
+pub at-nothing : (v : Value) (s : List ℕ) (p : ℕ) → at (payload (nothing v)) s p ≡ found v p
+unfolding payload mapped
+at-nothing v s p = at-giving (num 0) (λ _. v) s p ∙ rw (num-there 0 s p zero-le, add-zero p)
 
 -- a token by what follows its id
 pub by-id : (s : List ℕ) (p : ℕ) {i n : ℕ} {q : Payload} → at (num 2) s p ≡ found i n → after i ≡ q → at token s p ≡ at (payload q) s n

@@ -21,10 +21,10 @@ use Rattle.form.specs.Table.{Payload, number, text, colour, table, entri
 use Rattle.form.specs.Refusals.{Refusal, Eof, InvalidRgb, LongString, WideLookup, ReservedId, NoRoom, BufferTooSmall, ReadFailed, BadPlace, TooLong, Fault, tooShort, badColour, refusalValue, refusalValues, refusalAt}
 use Rattle.form.specs.Readers.{Answer, found, refused, _giving_}
 use Rattle.form.specs.Reading.{num, string, payload, token}
-use Rattle.form.specs.Spelling.{bit, reason}
+use Rattle.form.specs.Spelling.{reason}
 use Rattle.form.specs.Saves.{step, walkF, walk, tokens, normal, LIMIT, Clean}
 use Rattle.form.specs.Writing.{written, fitted, firstRefusal, unless, normalise}
-use Rattle.form.specs.Keys.{Test, count, deeper, anyToken, isContainer, isStray, isKey, Counts, counts}
+use Rattle.form.specs.Keys.{Around, atTop, onward, Test, anyToken, isContainer, isStray, isKey, keptIf, those, keysOf, count, Counts, counts}
 use Rattle.form.specs.Ascii.{ascii, decimalF, decimal, signed, hex, hexOrDash, truth, spaced, line}
 use Rattle.form.specs.Listing.{name, alphaWords, shown, tokenLine, countWords, endLine, refusalWord, errorLine, linesOf, listing, list}
 use Rattle.form.proofs.LittleEndian.{drop-bytes}
@@ -216,19 +216,19 @@ end-length d n c l t o k z =
     simp length-append (omega (arith, decimal-short d n l, small (c .tokens) t, small (c .containers) o, small (c .keys) k, small (c .strays) z))
 
 -- a walk has no more tokens than steps
-count-most : (test : Test) (k d p : ℕ) (s : List ℕ) → count test d (walkF k p s) ≤ k
-unfolding count walkF step
-count-most test zero d p s = omega arith
-count-most test (suc k) d p [] = omega arith
-count-most test (suc k) d p (b ∷ s) = go (token (b ∷ s)) (λ v n. count-most test k (deeper v d) (p + n) (drop n (b ∷ s)))
+count-most : (test : Test) (a : Around) (k p : ℕ) (s : List ℕ) → count test a (walkF k p s) ≤ k
+unfolding count those walkF step
+count-most test a zero p s = omega arith
+count-most test a (suc k) p [] = omega arith
+count-most test a (suc k) p (b ∷ s) = go (token (b ∷ s)) (λ v n. count-most test (onward v a) k (p + n) (drop n (b ∷ s)))
   where
-    one : (t : Bool) (n : ℕ) → n ≤ k → bit t + n ≤ suc k
-    one true n h = omega arith
-    one false n h = omega arith
+    one : (t : Bool) (x : ℕ × Value) (l : List (ℕ × Value)) → length l ≤ k → length (keptIf t x l) ≤ suc k
+    one true x l h = omega arith
+    one false x l h = omega arith
 
-    go : (a : Answer Value) → ((v : Value) (n : ℕ) → count test (deeper v d) (walkF k (p + n) (drop n (b ∷ s))) ≤ k)
-        → count test d (step p a (λ n. walkF k (p + n) (drop n (b ∷ s)))) ≤ suc k
-    go (found v n) ih = one (test d v (walkF k (p + n) (drop n (b ∷ s)))) _ (ih v n)
+    go : (x : Answer Value) → ((v : Value) (n : ℕ) → count test (onward v a) (walkF k (p + n) (drop n (b ∷ s))) ≤ k)
+        → count test a (step p x (λ n. walkF k (p + n) (drop n (b ∷ s)))) ≤ suc k
+    go (found v n) ih = one (test a v (walkF k (p + n) (drop n (b ∷ s)))) (p, v) _ (ih v n)
     go (refused f) ih = omega arith
 
 -- ---- the whole
@@ -260,10 +260,10 @@ text-length d (suc k) p (b ∷ s) last h l m =
 
 -- the dump of a save whose length has d + 1 digits
 pub listing-length : (d : ℕ) (s : List ℕ) → Bytes s → length s < 10 ^ suc d → 2 * length (listing s) ≤ (d + 23) * length s + (10 * d + 86)
-unfolding listing counts walk
+unfolding listing count counts keysOf walk
 listing-length d s h l =
     let n = length s in
-    let most : (test : Test) → count test 0 (walkF n 0 s) ≤ n = λ test. count-most test n 0 0 s in
+    let most : (test : Test) → count test atTop (walkF n 0 s) ≤ n = λ test. count-most test atTop n 0 s in
     text-length d n 0 s (endLine n (counts (walk s))) h (omega arith)
     (end-length d n (counts (walk s)) l (most anyToken) (most isContainer) (most isKey) (most isStray))
 

@@ -9,7 +9,7 @@ use Rattle.form.specs.Numbers.{le, leBytes}
 use Rattle.form.specs.Values.{Value, Open, F64, Lookup, Truth, Quoted, Unquoted, kind}
 use Rattle.form.specs.Table.{table, entries, find, orPlain, after}
 use Rattle.form.specs.Ids.{OPEN, CLOSE, CHANNEL}
-use Rattle.form.specs.Refusals.{WideLookup, BadPlace, refusalAt, refusalValue, refusalValues}
+use Rattle.form.specs.Refusals.{Eof, WideLookup, BadPlace, refusalAt, refusalValue, refusalValues}
 use Rattle.form.specs.Readers.{further, andThen, mapped, _followed-by_, _giving_, at}
 use Rattle.form.specs.Reading.{next, num, string, channel, rgb, payload, token}
 use Rattle.form.specs.Skipping.{stepped, passing, orStop, closed, turned, skipF, skipping, skipContainer}
@@ -19,7 +19,8 @@ use Rattle.form.specs.Shortest.{heldBy, firstOf, firstIn, otherwise, orS
 use Rattle.form.specs.Saves.{step, walkF, walk}
 use Rattle.form.specs.Writing.{unwritten, leaves, fitted, write, firstRefusal, unless, normalise}
 use Rattle.form.specs.Fast.{Step, fast, slow, Stepped, front, stepNumber, stepText, stepBy, fastStep}
-use Rattle.form.specs.Keys.{isOpen, isClose, isEqual, deeper, equalNext, isKey, count, counts}
+use Rattle.form.specs.Keys.{isOpen, isClose, isEqual, deeper, ahead, isKey, those, keysOf, count, counts}
+use Rattle.form.specs.Finding.{isPlain, firstPlain, cutBy, firstly, sought, staying, walkAt, finds}
 use Rattle.form.specs.Ascii.{ascii, decimalF, decimal, spaced, line}
 use Rattle.form.specs.Listing.{name, shown, tokenLine, countWords, endLine, refusalWord, errorLine, linesOf, listing}
 use Rattle.form.proofs.Specimens.{cursor, eof}
@@ -72,6 +73,22 @@ pub lists-hold : (listing (0x04 ∷ 0x00 ∷ 0x03 ∷ 0x00 ∷ 0x01 ∷ 0x28 ∷
     ≡ ascii "0 close\n2 open\n4 id 10241\n6 equal\n8 close\n10 id 10241\n12 equal\n14 close\nend 16 tokens 8 containers 1 keys 1 stray 2\n")
     × (listing (0x04 ∷ 0x00 ∷ 0x03 ∷ []) ≡ ascii "0 close\nerror eof 2\n")
 unfolding le kind table entries find orPlain after refusalAt further andThen mapped _followed-by_ _giving_ next num payload token step walkF walk isOpen
-    isClose isEqual deeper equalNext isKey count counts decimalF decimal spaced line name shown tokenLine countWords endLine refusalValue refusalValues
+    isClose isEqual deeper ahead isKey those keysOf count counts decimalF decimal spaced line name shown tokenLine countWords endLine refusalValue refusalValues
     refusalWord errorLine linesOf listing
 lists-hold = (refl, refl)
+
+-- a key is found where it stands, also before damage, from a cursor on, and at depth 0 from there; before a key that is not found the refusal
+-- is answered; a reserved id is never a key, and a plain one before nothing, or before what is no token, is none; a cursor past the input is
+-- refused
+pub finds-hold : (finds 0x2802 (0x01 ∷ 0x28 ∷ 0x01 ∷ 0x00 ∷ 0x02 ∷ 0x28 ∷ 0x02 ∷ 0x28 ∷ 0x01 ∷ 0x00 ∷ []) atStart ≡ gives (some 6) atStart)
+    × (finds 0x2801 (0x01 ∷ 0x28 ∷ 0x01 ∷ 0x00 ∷ 0x0f ∷ 0x00 ∷ 0x09 ∷ 0x00 ∷ []) atStart ≡ gives (some 0) atStart)
+    × (finds 0x2802 (0x03 ∷ 0x00 ∷ 0x02 ∷ 0x28 ∷ 0x01 ∷ 0x00 ∷ 0x04 ∷ 0x00 ∷ []) atStart ≡ gives none atStart)
+    × (finds 0x2802 (0x03 ∷ 0x00 ∷ 0x02 ∷ 0x28 ∷ 0x01 ∷ 0x00 ∷ 0x04 ∷ 0x00 ∷ []) (cursor 2) ≡ gives (some 2) (cursor 2))
+    × (finds 0x2802 (0x01 ∷ 0x28 ∷ 0x01 ∷ 0x00 ∷ 0x0f ∷ 0x00 ∷ 0x09 ∷ 0x00 ∷ []) atStart ≡ refuses (Eof 4) atStart)
+    × (finds 0x000e (0x0e ∷ 0x00 ∷ 0x01 ∷ 0x01 ∷ 0x00 ∷ []) atStart ≡ gives none atStart)
+    × (finds 0x2801 (0x01 ∷ 0x28 ∷ []) atStart ≡ gives none atStart)
+    × (finds 0x2801 (0x01 ∷ 0x28 ∷ 0x01 ∷ []) atStart ≡ refuses (Eof 2) atStart)
+    × (finds 0x2801 [] (cursor 1) ≡ refuses (BadPlace 1) (cursor 1))
+unfolding le kind table entries find orPlain after refusalAt further andThen mapped _followed-by_ _giving_ next num string payload token step walkF tag
+    isOpen isClose isEqual deeper ahead isKey those keysOf within isPlain firstPlain cutBy firstly sought staying walkAt finds
+finds-hold = (refl, refl, refl, refl, refl, refl, refl, refl, refl)

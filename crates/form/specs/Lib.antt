@@ -14,5 +14,6 @@ pub mod Writing
 pub mod Put
 pub mod Fast
 pub mod Keys
+pub mod Finding
 pub mod Ascii
 pub mod Listing

@@ -15,7 +15,7 @@ use Rattle.payload.specs.declared.answers.LexError.the-variants.{Eof, InvalidRg
 use Rattle.payload.specs.declared.answers.Text.{Text}
 use Rattle.payload.proofs.Unique.{colour-one}
 use Rattle.token.specs.declared.Token.{Token}
-use Rattle.lexer.specs.Calls.{cursorOf, refusalOf, u8Call, u16Call, u32Call, u64Call, i32Call, i64Call, boolCall, idCall, stringCall, tokenCall, rgbCall, nextIdCall, peekIdCall, nextTokenCall, peekTokenCall, skipCall}
+use Rattle.lexer.specs.Calls.{cursorOf, refusalOf, u8Call, u16Call, u32Call, u64Call, i32Call, i64Call, boolCall, idCall, stringCall, tokenCall, rgbCall, nextIdCall, peekIdCall, nextTokenCall, peekTokenCall, skipCall, findCall}
 use Rattle.lexer.specs.declared.Lexer.{Lexer}
 use Rattle.lexer.specs.declared.answers.Refusal.{Refusal}
 use Rattle.lexer.specs.declared.answers.Refusal.the-variants.{Lexed, BadPlace}
@@ -49,6 +49,8 @@ use Rattle.lexer.specs.declared.answers.NextToken.{NextToken}
 use Rattle.lexer.specs.declared.answers.NextToken.the-variants as NextT
 use Rattle.lexer.specs.declared.answers.PeekToken.{PeekToken}
 use Rattle.lexer.specs.declared.answers.PeekToken.the-variants as PeekT
+use Rattle.lexer.specs.declared.answers.LexFind.{LexFind}
+use Rattle.lexer.specs.declared.answers.LexFind.the-variants as Find
 use Rattle.lexer.specs.declared.answers.LexSkip.{LexSkip}
 use Rattle.lexer.specs.declared.answers.LexSkip.the-variants as Skip
 
@@ -220,6 +222,19 @@ peek-token-back c (PeekT.Refused e) = ap PeekT.Refused (refusal-back e)
 
 pub peek-token-one : (c : Lexer) {a : Call (Option Token)} (r r′ : PeekToken) → peekTokenCall c r ≡ a → peekTokenCall c r′ ≡ a → r ≡ r′
 peek-token-one c = same (peekTokenCall c) peekTokenBack (peek-token-back c)
+
+abbrev findBack : Call (Option ℕ) → LexFind
+findBack (gives (some p) c) = Find.Found p
+findBack (gives none c) = Find.Absent
+findBack (refuses e c) = Find.Refused (refusalBack e)
+
+find-back : (c : Lexer) (r : LexFind) → findBack (findCall c r) ≡ r
+find-back c (Find.Found p) = refl
+find-back c Find.Absent = refl
+find-back c (Find.Refused e) = ap Find.Refused (refusal-back e)
+
+pub find-one : (c : Lexer) {a : Call (Option ℕ)} (r r′ : LexFind) → findCall c r ≡ a → findCall c r′ ≡ a → r ≡ r′
+find-one c = same (findCall c) findBack (find-back c)
 
 abbrev skipBack : Call (Unit {0}) → LexSkip
 skipBack (gives _ c) = Skip.Done (lexerOf c)

@@ -52,6 +52,8 @@ use Rattle.lexer.specs.declared.answers.PeekId.{PeekId}
 use Rattle.lexer.specs.declared.answers.PeekId.the-variants as PeekI
 use Rattle.lexer.specs.declared.answers.PeekToken.{PeekToken}
 use Rattle.lexer.specs.declared.answers.PeekToken.the-variants as PeekT
+use Rattle.lexer.specs.declared.answers.LexFind.{LexFind}
+use Rattle.lexer.specs.declared.answers.LexFind.the-variants as Find
 use Rattle.lexer.specs.declared.answers.LexSkip.{LexSkip}
 use Rattle.lexer.specs.declared.answers.LexSkip.the-variants as Skip
 
@@ -156,6 +158,11 @@ abbrev pub peekTokenCall : Lexer → PeekToken → Call (Option Token)
 peekTokenCall c (PeekT.Got x) = gives (some x) (cursorOf c)
 peekTokenCall c PeekT.Nothing = gives none (cursorOf c)
 peekTokenCall c (PeekT.Refused e) = refuses (refusalOf e) (cursorOf c)
+
+abbrev pub findCall : Lexer → LexFind → Call (Option ℕ)
+findCall c (Find.Found p) = gives (some p) (cursorOf c)
+findCall c Find.Absent = gives none (cursorOf c)
+findCall c (Find.Refused e) = refuses (refusalOf e) (cursorOf c)
 
 -- a skip leaves the cursor where it ended
 abbrev pub skipCall : LexSkip → Call (Unit {0})

@@ -128,3 +128,10 @@ pub enum LexSkip {
     Done(Lexer),
     Refused(Refusal, Lexer),
 }
+
+// Where a key stands, the first of its id.
+pub enum LexFind {
+    Found(usize),
+    Absent,
+    Refused(Refusal),
+}

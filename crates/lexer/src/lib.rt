@@ -1,5 +1,6 @@
 // The lexer: a cursor by value, whose calls take the input and give the next cursor with the answer.
 pub mod answers;
+mod finding;
 mod parts;
 mod reads;
 mod skips;
@@ -12,6 +13,7 @@ ghost use Rattle.form.specs.Calls.{atStart, movedTo, positionOf, within, gives,
 ghost use Rattle.payload.specs.Answers.{faultOf};
 ghost use Rattle.lexer.specs.Calls.{cursorOf, refusalOf, placeCall, refusedCall};
 pub use crate::answers::LexBool;
+pub use crate::answers::LexFind;
 pub use crate::answers::LexI32;
 pub use crate::answers::LexI64;
 pub use crate::answers::LexId;

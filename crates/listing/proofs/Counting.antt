@@ -2,7 +2,7 @@
 use Prim.Native.Nat.{ℕ, _+_, _-_, _≤_}
 use native.Mathlib.Nat.{zero-add, add-zero, add-assoc}
 use native.Mathlib.Omega.{arith}
-use mathlib.Core.Path.{_≡_, sym}
+use mathlib.Core.Path.{_≡_, sym, ap, _∙_}
 use mathlib.Core.Bool.{Bool, true, false, _&&_}
 use mathlib.Core.List.{List, [], _∷_}
 use lib.Dec.{eqb}
@@ -13,7 +13,8 @@ use Rattle.form.specs.Numbers.{pick}
 use Rattle.form.specs.Values.{Value, Open, Close, Equal, kind}
 use Rattle.form.specs.Spelling.{bit}
 use Rattle.form.specs.Saves.{Walk, done, then}
-use Rattle.form.specs.Keys.{Counts, isOpen, isClose, isEqual, deeper, equalNext, anyToken, isContainer, isStray, isKey, count, counts}
+use Rattle.form.specs.Keys.{Counts, isOpen, isClose, isEqual, deeper, ahead, holds, Test, anyToken, isContainer, isStray, isKey, those, keysOf, count, counts}
+use Rattle.form.proofs.Tests.{atDepth, ByDepth, any-depth, container-depth, stray-depth, key-depth, depth-step}
 use Rattle.token.specs.Tokens.{valueOf}
 use Rattle.token.specs.declared.Token.{Token}
 use Rattle.token.specs.declared.Token.the-variants as T
@@ -24,11 +25,17 @@ use Rattle.listing.specs.Tallies.{noneYet, tallied, counted, Sound}
 -- what has been counted, and what is still to be counted
 abbrev pub total : Tally → Walk → Counts
 total c w = record {
-  tokens = c .tokens + count anyToken (c .depth) w;
-  containers = c .containers + count isContainer (c .depth) w;
-  keys = c .keys + (bit (c .candidate && equalNext w) + count isKey (c .depth) w);
-  strays = c .strays + count isStray (c .depth) w;
+  tokens = c .tokens + count anyToken (atDepth (c .depth)) w;
+  containers = c .containers + count isContainer (atDepth (c .depth)) w;
+  keys = c .keys + (bit (c .candidate && holds isEqual (ahead w)) + count isKey (atDepth (c .depth)) w);
+  strays = c .strays + count isStray (atDepth (c .depth)) w;
 }
+
+-- a count goes on by a token
+counts-on : (test : Test) → ByDepth test → (n d p k : ℕ) (v : Value) (w : Walk)
+    → n + count test (atDepth d) (then p k v w) ≡ n + bit (test (atDepth d) v w) + count test (atDepth (deeper v d)) w
+counts-on test t n d p k v w =
+    ap (λ (x : ℕ). n + x) (depth-step test t d p k v w) ∙ sym (add-assoc n (bit (test (atDepth d) v w)) (count test (atDepth (deeper v d)) w))
 
 -- a candidate is counted when Equal comes, or before it
 key-step : (was equal : Bool) (a b n : ℕ) → a + (bit (was && equal) + (b + n)) ≡ a + bit (equal && was) + (b + n)
@@ -37,26 +44,31 @@ key-step true false a b n = omega arith
 key-step false true a b n = omega arith
 key-step false false a b n = omega arith
 
+keys-on : (c : Tally) (p k : ℕ) (v : Value) (w : Walk) → (total c (then p k v w)) .keys ≡ (total (tallied c v) w) .keys
+unfolding ahead isKey
+keys-on c p k v w =
+    ap (λ (x : ℕ). c .keys + (bit (c .candidate && isEqual v) + x)) (depth-step isKey key-depth (c .depth) p k v w)
+    ∙ key-step (c .candidate) (isEqual v) (c .keys) (bit ((tallied c v) .candidate && holds isEqual (ahead w))) (count isKey (atDepth (deeper v (c .depth))) w)
+
 -- counting a token leaves the total
 pub total-step : (c : Tally) (p n : ℕ) (v : Value) (w : Walk) → total c (then p n v w) ≡ total (tallied c v) w
-unfolding count isKey equalNext
 total-step c p n v w = λ i. record {
-  tokens = sym (add-assoc (c .tokens) 1 (count anyToken (deeper v (c .depth)) w)) i;
-  containers = sym (add-assoc (c .containers) (bit (isOpen v)) (count isContainer (deeper v (c .depth)) w)) i;
-  keys = key-step (c .candidate) (isEqual v) (c .keys) (bit ((tallied c v) .candidate && equalNext w)) (count isKey (deeper v (c .depth)) w) i;
-  strays = sym (add-assoc (c .strays) (bit (isClose v && eqb (c .depth) 0)) (count isStray (deeper v (c .depth)) w)) i;
+  tokens = counts-on anyToken any-depth (c .tokens) (c .depth) p n v w i;
+  containers = counts-on isContainer container-depth (c .containers) (c .depth) p n v w i;
+  keys = keys-on c p n v w i;
+  strays = counts-on isStray stray-depth (c .strays) (c .depth) p n v w i;
 }
 
 zero-add₂ : (n : ℕ) → 0 + (0 + n) ≡ n
 zero-add₂ n = omega arith
 
 pub total-none : (w : Walk) → total noneYet w ≡ counts w
-unfolding counts
+unfolding counts count keysOf
 total-none w = λ i. record {
-  tokens = zero-add (count anyToken 0 w) i;
-  containers = zero-add (count isContainer 0 w) i;
-  keys = zero-add₂ (count isKey 0 w) i;
-  strays = zero-add (count isStray 0 w) i;
+  tokens = zero-add (count anyToken (atDepth 0) w) i;
+  containers = zero-add (count isContainer (atDepth 0) w) i;
+  keys = zero-add₂ (count isKey (atDepth 0) w) i;
+  strays = zero-add (count isStray (atDepth 0) w) i;
 }
 
 no-key : (b : Bool) (n : ℕ) → n + (bit (b && false) + 0) ≡ n
@@ -64,7 +76,7 @@ no-key true n = omega arith
 no-key false n = omega arith
 
 pub total-done : (c : Tally) → total c done ≡ counted c
-unfolding count equalNext
+unfolding count those ahead
 total-done c = λ i. record {
   tokens = add-zero (c .tokens) i;
   containers = add-zero (c .containers) i;

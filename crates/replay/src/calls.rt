@@ -29,8 +29,10 @@ pub(crate) fn holds(numbers: &[u64; NUMBERS], bytes: &[u8], output: &[u8]) -> bo
         outputs::ask(call, bytes, at, arg, &mut out, &mut answer)
     } else if call < 49 {
         sources::ask(call, bytes, at, arg, &mut out, &mut answer)
-    } else {
+    } else if call < 51 {
         outputs::ask(call, bytes, at, arg, &mut out, &mut answer)
+    } else {
+        ask(call, bytes, at, arg, &mut answer)
     };
     if same_code(asked, numbers[3]) {
         if same_words(numbers, &answer) {
@@ -50,7 +52,7 @@ fn same_code(asked: Asked, code: u64) -> bool {
 // What the words are before the call, so that one that is left alone shows. The calls on an id and those that make a state are lent none.
 fn lent(call: u64) -> u64 {
     match call {
-        3..=46 | 49..=50 => u64::MAX,
+        3..=46 | 49..=51 => u64::MAX,
         _ => 0,
     }
 }
@@ -77,6 +79,7 @@ fn ask(call: u64, bytes: &[u8], at: usize, arg: usize, answer: &mut [u64]) -> As
         20..=26 => ask_number(call, bytes, at, answer),
         27 => skip_value(bytes, at, arg, answer),
         28 => Asked::Code(lexing::stivlaheim_skip_container(bytes, at, answer)),
+        51 => find_key(bytes, at, arg, answer),
         _ => Asked::Nothing,
     }
 }
@@ -152,6 +155,13 @@ fn is_id(id: usize) -> Asked {
         return Asked::Nothing;
     }
     Asked::Code(kinds::stivlaheim_is_id(id as u16) as u32)
+}
+
+fn find_key(bytes: &[u8], at: usize, id: usize, answer: &mut [u64]) -> Asked {
+    if id > 0xffff {
+        return Asked::Nothing;
+    }
+    Asked::Code(lexing::stivlaheim_find_key(bytes, at, id as u16, answer))
 }
 
 fn skip_value(bytes: &[u8], at: usize, id: usize, answer: &mut [u64]) -> Asked {

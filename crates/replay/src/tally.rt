@@ -13,6 +13,7 @@ pub struct Tally {
     pub writes: u64,
     pub steps: u64,
     pub sources: u64,
+    pub finds: u64,
     pub unreadable: u64,
     pub answers: u64,
     pub different: u64,
@@ -31,6 +32,7 @@ impl Tally {
             writes: 0,
             steps: 0,
             sources: 0,
+            finds: 0,
             unreadable: 0,
             answers: 0,
             different: 0,
@@ -69,6 +71,7 @@ impl Tally {
             32 => t.steps = more(t.steps),
             33..=48 => t.sources = more(t.sources),
             49..=50 => t.writes = more(t.writes),
+            51 => t.finds = more(t.finds),
             _ => t.unreadable = more(t.unreadable),
         }
         t
@@ -84,6 +87,7 @@ impl Tally {
         print(b", writes ", self.writes);
         print(b", steps ", self.steps);
         print(b", sources ", self.sources);
+        print(b", finds ", self.finds);
         print(b", unreadable ", self.unreadable);
         print(b"\n", self.answers);
         print(b" answers replayed, ", self.different);

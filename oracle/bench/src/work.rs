@@ -29,15 +29,16 @@ pub enum Task {
     Normalise,
     Shorten,
     Fast,
+    Find,
 }
 
 impl Task {
-    const ALL: [Task; 5] = [Task::Read, Task::Skip, Task::Normalise, Task::Shorten, Task::Fast];
+    const ALL: [Task; 6] = [Task::Read, Task::Skip, Task::Normalise, Task::Shorten, Task::Fast, Task::Find];
 
     /// Colours are not fast, and the last three flavours have some.
     fn flavours(self) -> &'static [Flavour] {
         match self {
-            Task::Read | Task::Skip | Task::Normalise | Task::Shorten => &Flavour::ALL,
+            Task::Read | Task::Skip | Task::Normalise | Task::Shorten | Task::Find => &Flavour::ALL,
             Task::Fast => &Flavour::ALL[..5],
         }
     }
@@ -49,6 +50,7 @@ impl Task {
             Task::Normalise => "normalise",
             Task::Shorten => "shorten",
             Task::Fast => "fast step",
+            Task::Find => "find key",
         }
     }
 }
@@ -76,10 +78,24 @@ impl Work {
         match self.task {
             Task::Skip => bytes.extend([4, 0]),
             Task::Normalise | Task::Shorten => narrow(&mut bytes),
+            Task::Find => with_key(&mut bytes),
             Task::Read | Task::Fast => {}
         }
         bytes
     }
+}
+
+/// A key at the end, of an id that is none before.
+fn with_key(bytes: &mut Vec<u8>) {
+    let is_none = |id: &u16| original::find_key(bytes, 0, *id).is_some_and(|answer| answer.code == code::NONE);
+    let id = (0x2000..0x3000).find(is_none).expect("an id that is no key");
+    bytes.extend(id.to_le_bytes().into_iter().chain([1, 0]));
+}
+
+/// The id of the key that stands at the end.
+fn last_key(bytes: &[u8]) -> u16 {
+    let (key, _) = bytes[bytes.len() - 4..].split_first_chunk().expect("a key and Equal");
+    u16::from_le_bytes(*key)
 }
 
 /// Room for any normal form.
@@ -101,6 +117,7 @@ pub fn agreed(work: Work, bytes: &[u8], out: &mut [u8]) -> bool {
         Task::Normalise => words[0] >= end,
         Task::Shorten => words[0] <= end,
         Task::Fast => words[0] + (FAST_WINDOW as u64) > end,
+        Task::Find => words[1] + 4 == end,
     };
     let same = match work.task {
         Task::Shorten => (original::normalise(&written[..words[0] as usize], out), out.to_vec()) == original,
@@ -119,10 +136,12 @@ pub fn stivlaheim_bench_measured(side: Side, task: Task, bytes: &[u8], out: &mut
         (Side::Port, Task::Normalise) => port::answer(|words| port::respell(Spelling::Normal, bytes, out, words)),
         (Side::Port, Task::Shorten) => port::answer(|words| port::respell(Spelling::Shortest, bytes, out, words)),
         (Side::Port, Task::Fast) => port_steps(bytes),
+        (Side::Port, Task::Find) => port::answer(|words| port::find_key(bytes, 0, last_key(bytes), words)),
         (Side::Original, Task::Read) => original::count_tokens(bytes),
         (Side::Original, Task::Skip) => original::skip_container(bytes),
         (Side::Original, Task::Normalise | Task::Shorten) => original::normalise(bytes, out),
         (Side::Original, Task::Fast) => original::step_fast(bytes),
+        (Side::Original, Task::Find) => original::find_key(bytes, 0, last_key(bytes)).expect("a place in the input"),
     }
 }
 

@@ -58,6 +58,9 @@ fn what_is_no_request() {
         "shorten *9 -",
         "shortest 9 -",
         "shortest 9 quoted 0 1",
+        "find - 0",
+        "find - 0 65536",
+        "find *1 0 1",
         "dump *1",
         "lex *1 0 read_id",
     ];

@@ -1,5 +1,6 @@
 //! The dump of a save as FORMAT.md words it, from the original's tokens.
 
+use crate::keys::keys;
 use protocol::{KINDS, Token, code, hex};
 
 pub fn dump(bytes: &[u8]) -> String {
@@ -43,8 +44,8 @@ fn value(token: &Token) -> Option<String> {
 
 fn last_line(length: usize, tokens: &[(usize, Token)]) -> String {
     let mut depth = 0;
-    let [mut containers, mut keys, mut strays] = [0; 3];
-    for (place, (_, token)) in tokens.iter().enumerate() {
+    let [mut containers, mut strays] = [0; 2];
+    for (_, token) in tokens {
         match token {
             Token::Open => {
                 containers += 1;
@@ -52,12 +53,9 @@ fn last_line(length: usize, tokens: &[(usize, Token)]) -> String {
             }
             Token::Close if depth == 0 => strays += 1,
             Token::Close => depth -= 1,
-            Token::Equal => {}
-            _ => {
-                let equal_follows = matches!(tokens.get(place + 1), Some((_, Token::Equal)));
-                keys += usize::from(depth == 0 && equal_follows);
-            }
+            _ => {}
         }
     }
+    let keys = keys(tokens).count();
     format!("end {length} tokens {} containers {containers} keys {keys} stray {strays}", tokens.len())
 }

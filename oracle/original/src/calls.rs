@@ -65,6 +65,32 @@ pub fn count_tokens(bytes: &[u8]) -> Answer {
     Answer::found(lexer.position(), &[count])
 }
 
+/// The position of the first key that is a plain id, as a caller of the original finds it: token by token, up to the one
+/// after the key. Nothing for a place past the input.
+pub fn find_key(bytes: &[u8], at: usize, id: u16) -> Option<Answer> {
+    let mut lexer = Lexer::new(bytes);
+    lexer.read_bytes(at).ok()?;
+    let mut depth = 0u64;
+    let mut candidate = None;
+    loop {
+        let position = lexer.position();
+        let before = candidate.take();
+        match lexer.next_token() {
+            Ok(Some(Token::Equal)) => {
+                if let Some(key) = before {
+                    return Some(Answer::found(at, &[key as u64]));
+                }
+            }
+            Ok(Some(Token::Open)) => depth += 1,
+            Ok(Some(Token::Close)) => depth = depth.saturating_sub(1),
+            Ok(Some(Token::Id(found))) if found == id && depth == 0 => candidate = Some(position),
+            Ok(Some(_)) => {}
+            Ok(None) => return Some(Answer::none(at)),
+            Err(error) => return Some(refusal(error, at)),
+        }
+    }
+}
+
 pub fn skip_container(bytes: &[u8]) -> Answer {
     let mut lexer = Lexer::new(bytes);
     match lexer.skip_value(LexemeId::OPEN) {

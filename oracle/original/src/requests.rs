@@ -2,7 +2,8 @@
 
 use crate::{FAST_WINDOW, Window, calls, next_token_fast, write};
 use protocol::{
-    Answer, Op, Request, Source, Spelling, fast_line, kind_line, lex_line, output_line, source_line, split_line,
+    Answer, Op, Request, Source, Spelling, fast_line, find_line, kind_line, lex_line, output_line, source_line,
+    split_line,
 };
 
 /// Nothing where the original has no such call, or cannot stand there.
@@ -11,6 +12,7 @@ pub fn answer_request(request: &Request) -> Option<String> {
         Request::Kind(id) => Some(kind_line(calls::kind(*id), calls::is_id(*id))),
         Request::Split { bytes, count } => Some(split_line(bytes, &calls::split(bytes, *count)?)),
         Request::Lex { bytes, at, call } => Some(lex_line(bytes, *call, &calls::lex(bytes, *at, *call)?)),
+        Request::Find { bytes, at, id } => Some(find_line(&calls::find_key(bytes, *at, *id)?)),
         Request::Write { spelling: Spelling::Normal, room, token } => {
             let mut out = vec![0; *room];
             let count = write(&token.token()?, &mut out)?;

@@ -63,6 +63,14 @@ unsafe extern "C" {
         answer: *mut u64,
         answer_len: usize,
     ) -> u32;
+    fn stivlaheim_find_key(
+        bytes: *const u8,
+        len: usize,
+        at: usize,
+        id: u16,
+        answer: *mut u64,
+        answer_len: usize,
+    ) -> u32;
     fn stivlaheim_text(
         bytes: *const u8,
         len: usize,
@@ -101,6 +109,11 @@ fn position(bytes: &[u8], at: usize, answer: &mut [u64]) -> u32 {
         answer[1..].fill(0);
     }
     code
+}
+
+pub fn find_key(bytes: &[u8], at: usize, id: u16, answer: &mut [u64]) -> u32 {
+    // SAFETY: both slices live through the call, and the lent one is apart from the other.
+    unsafe { stivlaheim_find_key(bytes.as_ptr(), bytes.len(), at, id, answer.as_mut_ptr(), answer.len()) }
 }
 
 pub fn text(bytes: &[u8], start: usize, len: usize, answer: &mut [u64]) -> u32 {

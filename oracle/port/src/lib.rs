@@ -12,7 +12,7 @@ mod split;
 mod writer;
 
 pub use fast::next_token_fast;
-pub use lexer::{count_tokens, is_id, kind, lex, text};
+pub use lexer::{count_tokens, find_key, is_id, kind, lex, text};
 pub use requests::answer_request;
 pub use saves::{list, respell};
 pub use source::{Lists, new_source, source};

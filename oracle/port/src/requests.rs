@@ -1,9 +1,9 @@
 //! The port's answers to requests.
 
 use crate::source::Window;
-use crate::{answer, is_id, kind, lex, list, next_token_fast, respell, split, write};
+use crate::{answer, find_key, is_id, kind, lex, list, next_token_fast, respell, split, write};
 use protocol::{
-    Answer, Got, Handed, Op, Request, Source, code, dump_line, fast_line, kind_line, lex_line, output_line,
+    Answer, Got, Handed, Op, Request, Source, code, dump_line, fast_line, find_line, kind_line, lex_line, output_line,
     source_line, split_line,
 };
 
@@ -15,6 +15,7 @@ pub fn answer_request(request: &Request) -> String {
         Request::Kind(id) => kind_line(kind(*id), is_id(*id)),
         Request::Split { bytes, count } => split_line(bytes, &answer(|words| split(bytes, *count, words))),
         Request::Lex { bytes, at, call } => lex_line(bytes, *call, &answer(|words| lex(bytes, *at, *call, words))),
+        Request::Find { bytes, at, id } => find_line(&answer(|words| find_key(bytes, *at, *id, words))),
         Request::Write { spelling, room, token: Handed { kind, words, bytes } } => {
             let (answer, out) = lending(*room, |out, answer| write(*spelling, bytes, *kind, words, out, answer));
             output_line(&answer, &out)

@@ -14,7 +14,7 @@ pub use answer::{Answer, WORDS, code};
 pub use call::{Call, Shape};
 pub use hex::{hex, unhex};
 pub use request::Request;
-pub use show::{dump_line, fast_line, kind_line, lex_line, output_line, split_line};
+pub use show::{dump_line, fast_line, find_line, kind_line, lex_line, output_line, split_line};
 pub use source::{Got, Numbers, Op, STATE_WORDS, Source, State, source_line};
 pub use spelling::Spelling;
 pub use token::{Colour, Handed, KINDS, Token};

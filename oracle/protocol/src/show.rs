@@ -29,6 +29,17 @@ pub fn lex_line(bytes: &[u8], call: Call, answer: &Answer) -> String {
     }
 }
 
+/// Where a key stands.
+pub fn find_line(answer: &Answer) -> String {
+    let [_, value, ..] = answer.words;
+    match answer.code {
+        code::ANSWERED => format!("ok {value}"),
+        code::NONE => "absent".to_string(),
+        code::BAD_PLACE => format!("badplace {value}"),
+        code => format!("err {} {value}", refusal(code)),
+    }
+}
+
 /// A writer's answer, with what it put into the lent output.
 pub fn output_line(answer: &Answer, out: &[u8]) -> String {
     let [count, refused, ..] = answer.words;

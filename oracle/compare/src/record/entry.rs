@@ -5,7 +5,7 @@ use protocol::{Answer, hex};
 use std::fmt::{Display, Formatter, Result};
 
 /// The calls by their numbers, from 1. The replay has the same table, so that a new call goes to the end.
-pub const CALLS: [&str; 50] = [
+pub const CALLS: [&str; 51] = [
     "into_kind",
     "is_id",
     "get_split",
@@ -56,6 +56,7 @@ pub const CALLS: [&str; 50] = [
     "source_from_reader",
     "write_shortest",
     "shorten",
+    "find_key",
 ];
 
 /// A question with the answer that is expected, without the end of its line.

@@ -2,6 +2,7 @@
 
 mod cases;
 mod entry;
+mod finds;
 mod outputs;
 mod runs;
 mod sample;
@@ -20,6 +21,7 @@ pub fn record(file: &Path, seed: u64) -> ExitCode {
     cases::all(&mut sample, seed);
     outputs::all(&mut sample, seed);
     sources::all(&mut sample, seed);
+    finds::all(&mut sample, seed);
     sample.print_counts();
     write(file, header(seed) + &sample.lines())
 }
@@ -50,9 +52,9 @@ fn header(seed: u64) -> String {
 # The original answered; the port was not asked. Where it cannot be asked, the answer is FORMAT.md's: it has no call 4, no place past its
 # input (code 7), no refusal of a token that would not read back (32, 33) or for want of room (4), no words that are no token (101), and
 # no step over less than 16 bytes (call 32). Calls 30 and 31 are made from its tokens, in its own spelling and in FORMAT.md's words, and
-# calls 49 and 50 from its tokens and the shortest bytes that it reads as each of them.
+# calls 49 and 50 from its tokens and the shortest bytes that it reads as each of them. Call 51 is made from its tokens.
 # It has no state whose numbers do not fit (7) or whose sixth word is over 1 (101): of calls 33 to 48 these answers are FORMAT.md's.
-# CALL AT ARG CODE W0 W1 W2 W3 W4 W5 W6 W7 INPUT, and for the calls from 29 on INPUT/OUTPUT
+# CALL AT ARG CODE W0 W1 W2 W3 W4 W5 W6 W7 INPUT, and for the calls from 29 to 50 INPUT/OUTPUT
 # AT: the cursor, a text's start, or how many bytes are lent. ARG: an id, a count, a text's length, or a kind. Either is 0 where the call
 # takes none.
 # CODE: what the C function returns. W0 to W7: the words that it puts into the lent list, 0 where it is lent none, and the largest number

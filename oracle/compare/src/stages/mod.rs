@@ -3,6 +3,7 @@
 mod boundary;
 mod exhaustive;
 mod fast;
+mod finding;
 mod generated;
 mod programs;
 mod short_lists;
@@ -15,6 +16,7 @@ mod writing;
 pub use boundary::boundary;
 pub use exhaustive::{all_ids, all_kinds, all_short_inputs, splits};
 pub use fast::fast;
+pub use finding::finding;
 pub use generated::generated;
 pub use programs::programs;
 pub use short_lists::short_lists;

@@ -4,7 +4,7 @@ use super::sweep::plain_calls;
 use crate::case::Case;
 use crate::lent::Lend;
 use crate::run::Run;
-use crate::subjects::{Count, Fast, Form, Lex, Short, Split, Text, Whole, Write};
+use crate::subjects::{Count, Fast, Find, Form, Lex, Short, Split, Text, Whole, Write};
 use protocol::{Call, Spelling, WORDS};
 
 pub fn short_lists(run: &mut Run) {
@@ -16,6 +16,9 @@ pub fn short_lists(run: &mut Run) {
     }
     too_short(run, &Split { bytes: bytes.to_vec(), count: 2 });
     too_short(run, &Text::new(&bytes, 1, 2));
+    for at in [0, 4, 11] {
+        too_short(run, &Find::new(&bytes, at, 0x2801));
+    }
     too_short(run, &Count::new(&bytes));
     for room in [0, 5, 60] {
         for spelling in Spelling::ALL {

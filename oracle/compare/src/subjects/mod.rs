@@ -2,6 +2,7 @@
 
 mod count;
 mod fast;
+mod find;
 mod kept;
 mod kind;
 mod lexer;
@@ -16,6 +17,7 @@ mod write;
 
 pub use count::Count;
 pub use fast::Fast;
+pub use find::Find;
 pub use kept::Kept;
 pub use kind::Kind;
 pub use lexer::Lex;
