@@ -174,8 +174,9 @@ uint32_t stivlaheim_skip_value(const uint8_t *bytes, size_t bytes_len, size_t at
 uint32_t stivlaheim_skip_container(const uint8_t *bytes, size_t bytes_len, size_t at, uint64_t *answer, size_t answer_len);
 
 /* The position of the first key that is the plain id `id`, from the cursor on; the cursor stays. A key is a token other than Open, Close and
- * Equal, outside of every container that begins after the cursor, directly followed by Equal. NONE if the id is no key and all was read; EOF
- * or INVALID_RGB, with the position of the refused token, if it is none before that. No byte after the token that follows the key is
+ * Equal, outside of every container that begins after the cursor, directly followed by Equal, or directly followed by Open and not itself
+ * directly after an Equal; what stands before the cursor does not count, and a colour is one token. NONE if the id is no key and all was read;
+ * EOF or INVALID_RGB, with the position of the refused token, if it is none before that. No byte after the token that follows the key is
  * looked at. */
 uint32_t stivlaheim_find_key(const uint8_t *bytes, size_t bytes_len, size_t at, uint16_t id, uint64_t *answer, size_t answer_len);
 

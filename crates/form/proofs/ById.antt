@@ -1,21 +1,21 @@
 -- The kind of a token is told by its id. Assumes nothing.
 use Prim.Native.Nat.{ℕ}
 use mathlib.Core.Path.{_≡_, refl, sym, ap, _∙_}
-use mathlib.Core.Bool.{Bool, true, false, not}
+use mathlib.Core.Bool.{Bool, true, false, not, _||_}
 use mathlib.Core.List.{List, [], _∷_}
 use lib.ListN.{drop}
 use lib.Dec.{eqb}
 use borrow.Author.Tests.{eqb-true, eqb-false}
-use Rattle.form.specs.Values.{Value, Equal, kind}
+use Rattle.form.specs.Values.{Value, Open, Equal, kind}
 use Rattle.form.specs.Table.{Payload, number, text, colour, table, entries, find, orPlain, after}
 use Rattle.form.specs.Ids.{sample}
 use Rattle.form.specs.Readers.{Answer, found, refused, further, at, _giving_}
 use Rattle.form.specs.Reading.{num, string, rgb, payload}
-use Rattle.form.specs.Keys.{isEqual}
+use Rattle.form.specs.Keys.{isOpen, isEqual}
 use Rattle.form.proofs.Never.{never}
 use Rattle.form.proofs.Found.{All, all-mapped, num-found, string-found, rgb-found}
 use Rattle.form.proofs.Lookups.{InEach, by-table, plain-after}
-use Rattle.form.proofs.Elsewhere.{elsewhere}
+use Rattle.form.proofs.Elsewhere.{eachId, listed, elsewhere}
 use Rattle.form.proofs.Sound.{_&_}
 
 -- all values that it may give have one kind
@@ -67,21 +67,30 @@ kind-after i s p {v} {n} e = go (payload (after i) (drop p s)) (payload-kind (af
     go (found u m) h e = let z : u ≡ v = cc in rw (← z) h
     go (refused why) h e = cc
 
--- Equal has an id of its own
-equal-only : (i : ℕ) → eqb (kind (sample (after i))) (kind Equal) ≡ eqb i 0x0001
-unfolding kind sample after orPlain find entries table
-equal-only i = go (eqb i 0x0001) refl
-  where
-    no : (b : Bool) → not b ≡ true → b ≡ false
-    no true e = cc
-    no false e = refl
+-- a value whose kind no other id has
+module _ (u : Value) (j : ℕ) (own : eqb (kind (sample (after j))) (kind u) ≡ true) (named : eqb 14 (kind u) ≡ false)
+    (alone : eachId (λ k. listed k ((j ∷ []) ∷ []) || not (eqb (kind (sample (after k))) (kind u))) entries ≡ true) where
+  id-only : (i : ℕ) → eqb (kind (sample (after i))) (kind u) ≡ eqb i j
+  unfolding kind sample
+  id-only i = go (eqb i j) refl
+    where
+      no : (b : Bool) → not b ≡ true → b ≡ false
+      no true e = cc
+      no false e = refl
 
-    go : (b : Bool) → eqb i 0x0001 ≡ b → eqb (kind (sample (after i))) (kind Equal) ≡ b
-    go true e = rw (eqb-true i 0x0001 e)
-    go false e =
-        no _
-        (elsewhere (λ k. not (eqb (kind (sample (after k))) (kind Equal))) ((0x0001 ∷ []) ∷ []) (λ k r. rw (plain-after k r)) refl i (tt, eqb-false i 0x0001 e))
+      go : (b : Bool) → eqb i j ≡ b → eqb (kind (sample (after i))) (kind u) ≡ b
+      go true e = rw (eqb-true i j e) own
+      go false e =
+          no _ (elsewhere (λ k. not (eqb (kind (sample (after k))) (kind u))) ((j ∷ []) ∷ []) (λ k r. rw (plain-after k r, named)) alone i (tt, eqb-false i j e))
+
+  of-id : (i : ℕ) (s : List ℕ) (p : ℕ) {v : Value} {n : ℕ} → at (payload (after i)) s p ≡ found v n → eqb (kind v) (kind u) ≡ eqb i j
+  of-id i s p e = ap (λ (k : ℕ). eqb k (kind u)) (kind-after i s p e) ∙ id-only i
+
+-- Open and Equal have an id each of their own
+pub open-after : (i : ℕ) (s : List ℕ) (p : ℕ) {v : Value} {n : ℕ} → at (payload (after i)) s p ≡ found v n → isOpen v ≡ eqb i 0x0003
+unfolding isOpen kind sample after orPlain find entries table
+open-after = of-id Open 0x0003 refl refl refl
 
 pub equal-after : (i : ℕ) (s : List ℕ) (p : ℕ) {v : Value} {n : ℕ} → at (payload (after i)) s p ≡ found v n → isEqual v ≡ eqb i 0x0001
-unfolding isEqual
-equal-after i s p e = ap (λ (k : ℕ). eqb k (kind Equal)) (kind-after i s p e) ∙ equal-only i
+unfolding isEqual kind sample after orPlain find entries table
+equal-after = of-id Equal 0x0001 refl refl refl

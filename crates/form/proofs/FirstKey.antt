@@ -17,7 +17,7 @@ use Rattle.form.specs.Reading.{token}
 use Rattle.form.specs.Spelling.{tag}
 use Rattle.form.specs.Saves.{Walk, done, cut, then, step, walkF}
 use Rattle.form.specs.Calls.{Cursor, positionOf, Call, gives, refuses, within}
-use Rattle.form.specs.Keys.{isOpen, isClose, isEqual, Around, atTop, onward, ahead, holds, isKey, keptIf, those, keysOf}
+use Rattle.form.specs.Keys.{isOpen, isClose, isEqual, Around, atTop, onward, ahead, holds, makesKey, isKey, keptIf, those, keysOf}
 use Rattle.form.specs.Finding.{isPlain, firstPlain, cutBy, Sought, keyAt, absent, notBefore, firstly, sought, staying, walkAt, finds}
 use Rattle.form.proofs.Never.{never}
 use Rattle.form.proofs.Found.{All, Within, token-in}
@@ -53,7 +53,7 @@ first-kept i false p v l = refl
 -- a key is told by the token ahead
 key-ahead : (a : Around) (v : Value) (w u : Walk) → ahead w ≡ ahead u → isKey a v w ≡ isKey a v u
 unfolding isKey
-key-ahead a v w u e = ap (λ (o : Option Value). not (isOpen v || isClose v || isEqual v) && eqb (a .depth) 0 && holds isEqual o) e
+key-ahead a v w u e = ap (λ (o : Option Value). not (isOpen v || isClose v || isEqual v) && eqb (a .depth) 0 && makesKey (holds isEqual (a .before)) o) e
 
 -- ---- the walk over bytes that begin with a token
 
@@ -86,13 +86,13 @@ record Front (k q : ℕ) (s : List ℕ) : Type 0 where
   reads : token s ≡ found value size
   is : ahead (walkF k q s) ≡ some value
 
-front : (test : Value → Bool) (k q : ℕ) (s : List ℕ) → holds test (ahead (walkF k q s)) ≡ true → Front k q s
+front : (test : Option Value → Bool) → test none ≡ false → (k q : ℕ) (s : List ℕ) → test (ahead (walkF k q s)) ≡ true → Front k q s
 unfolding walkF step ahead
-front test zero q s e = never (cc)
-front test (suc k) q [] e = never (cc)
-front test (suc k) q (b ∷ s) e = go (token (b ∷ s)) refl e
+front test z zero q s e = never (cc)
+front test z (suc k) q [] e = never (cc)
+front test z (suc k) q (b ∷ s) e = go (token (b ∷ s)) refl e
   where
-    go : (x : Answer Value) → token (b ∷ s) ≡ x → holds test (ahead (step q x (λ n. walkF k (q + n) (drop n (b ∷ s))))) ≡ true → Front (suc k) q (b ∷ s)
+    go : (x : Answer Value) → token (b ∷ s) ≡ x → test (ahead (step q x (λ n. walkF k (q + n) (drop n (b ∷ s))))) ≡ true → Front (suc k) q (b ∷ s)
     go (found v n) f e = record { value = v; size = n; reads = f; is = rw f }
     go (refused why) f e = never (cc)
 
@@ -124,9 +124,10 @@ module _ (i : ℕ) (a : Around) (k q : ℕ) (s : List ℕ) {v : Value} {n : ℕ}
 
 -- a key has a token ahead
 key-front : (a : Around) (v : Value) (k q : ℕ) (s : List ℕ) → isKey a v (walkF k q s) ≡ true → Front k q s
-unfolding isKey
+unfolding isKey makesKey
 key-front a v k q s h =
-    front isEqual k q s (both (not (isOpen v || isClose v || isEqual v) && eqb (a .depth) 0) (holds isEqual (ahead (walkF k q s))) h .1)
+    let made = makesKey (holds isEqual (a .before)) in
+    front made refl k q s (both (not (isOpen v || isClose v || isEqual v) && eqb (a .depth) 0) (made (ahead (walkF k q s))) h .1)
 
 here : (i : ℕ) (a : Around) (k q : ℕ) (s : List ℕ) {v : Value} {n : ℕ} (reads : token s ≡ found v n) (j : ℕ) → walkF k q s ≡ then q n v (walkF j (q + n) (drop n s))
     → isKey a v (walkF j (q + n) (drop n s)) && isPlain i v ≡ true → Front j (q + n) (drop n s) → Shown i a k q s q

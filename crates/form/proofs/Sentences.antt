@@ -1,12 +1,12 @@
 -- What FORMAT.md says in sentences that no marked specimen tries: a theorem of examples for each part of the definition. Assumes nothing.
-use Prim.Native.Nat.{ℕ}
+use Prim.Native.Nat.{ℕ, _+_}
 use mathlib.Core.Path.{_≡_, refl}
 use mathlib.Core.Bool.{true}
 use mathlib.Core.Option.{none, some}
 use mathlib.Core.List.{List, [], _∷_, _++_}
 use lib.ListN.{replicate}
 use Rattle.form.specs.Numbers.{le, leBytes}
-use Rattle.form.specs.Values.{Value, Open, F64, Lookup, Truth, Quoted, Unquoted, kind}
+use Rattle.form.specs.Values.{Value, Open, Close, Equal, F64, Lookup, Id, Truth, Quoted, Unquoted, Rgb, kind}
 use Rattle.form.specs.Table.{table, entries, find, orPlain, after}
 use Rattle.form.specs.Ids.{OPEN, CLOSE, CHANNEL}
 use Rattle.form.specs.Refusals.{Eof, WideLookup, BadPlace, refusalAt, refusalValue, refusalValues}
@@ -16,10 +16,10 @@ use Rattle.form.specs.Skipping.{stepped, passing, orStop, closed, turned
 use Rattle.form.specs.Calls.{atStart, gives, refuses, within, ended, reads, optional, nexts, ifFound, peeks, landed, skips}
 use Rattle.form.specs.Spelling.{tag, body, spell, reason}
 use Rattle.form.specs.Shortest.{heldBy, firstOf, firstIn, otherwise, orSpelled, shortest}
-use Rattle.form.specs.Saves.{step, walkF, walk}
+use Rattle.form.specs.Saves.{Walk, done, then, step, walkF, walk}
 use Rattle.form.specs.Writing.{unwritten, leaves, fitted, write, firstRefusal, unless, normalise}
 use Rattle.form.specs.Fast.{Step, fast, slow, Stepped, front, stepNumber, stepText, stepBy, fastStep}
-use Rattle.form.specs.Keys.{isOpen, isClose, isEqual, deeper, ahead, isKey, those, keysOf, count, counts}
+use Rattle.form.specs.Keys.{isOpen, isClose, isEqual, deeper, ahead, makesKey, isKey, those, keysOf, count, counts}
 use Rattle.form.specs.Finding.{isPlain, firstPlain, cutBy, firstly, sought, staying, walkAt, finds}
 use Rattle.form.specs.Ascii.{ascii, decimalF, decimal, spaced, line}
 use Rattle.form.specs.Listing.{name, shown, tokenLine, countWords, endLine, refusalWord, errorLine, linesOf, listing}
@@ -73,13 +73,28 @@ pub lists-hold : (listing (0x04 ∷ 0x00 ∷ 0x03 ∷ 0x00 ∷ 0x01 ∷ 0x28 ∷
     ≡ ascii "0 close\n2 open\n4 id 10241\n6 equal\n8 close\n10 id 10241\n12 equal\n14 close\nend 16 tokens 8 containers 1 keys 1 stray 2\n")
     × (listing (0x04 ∷ 0x00 ∷ 0x03 ∷ []) ≡ ascii "0 close\nerror eof 2\n")
 unfolding le kind table entries find orPlain after refusalAt further andThen mapped _followed-by_ _giving_ next num payload token step walkF walk isOpen
-    isClose isEqual deeper ahead isKey those keysOf count counts decimalF decimal spaced line name shown tokenLine countWords endLine refusalValue refusalValues
+    isClose isEqual deeper ahead makesKey isKey those keysOf count counts decimalF decimal spaced line name shown tokenLine countWords endLine refusalValue refusalValues
     refusalWord errorLine linesOf listing
 lists-hold = (refl, refl)
 
+-- a walk over such tokens, each of two bytes
+abbrev inTurn : ℕ → List Value → Walk
+inTurn p [] = done
+inTurn p (v ∷ vs) = then p 2 v (inTurn (p + 2) vs)
+
+-- a key stands before Equal, or right before its bracket; a value before a bracket is none, and one before Equal is; neither end of a container
+-- is a key, nor is Equal; a colour opens nothing, and may itself be a key
+pub keys-hold : (keysOf (inTurn 0 (Id 7 ∷ Equal ∷ Id 8 ∷ Id 9 ∷ Open ∷ Id 7 ∷ Open ∷ Close ∷ Close ∷ [])) ≡ (0, Id 7) ∷ (6, Id 9) ∷ [])
+    × (keysOf (inTurn 0 (Id 7 ∷ Equal ∷ Id 8 ∷ Open ∷ [])) ≡ (0, Id 7) ∷ [])
+    × (keysOf (inTurn 0 (Id 7 ∷ Equal ∷ Id 8 ∷ Equal ∷ [])) ≡ (0, Id 7) ∷ (4, Id 8) ∷ [])
+    × (keysOf (inTurn 0 (Close ∷ Equal ∷ Equal ∷ Close ∷ Open ∷ Open ∷ [])) ≡ [])
+    × (keysOf (inTurn 0 (Id 7 ∷ Rgb 1 2 3 none ∷ Open ∷ [])) ≡ (2, Rgb 1 2 3 none) ∷ [])
+unfolding kind isOpen isClose isEqual deeper ahead makesKey isKey those keysOf
+keys-hold = (refl, refl, refl, refl, refl)
+
 -- a key is found where it stands, also before damage, from a cursor on, and at depth 0 from there; before a key that is not found the refusal
 -- is answered; a reserved id is never a key, and a plain one before nothing, or before what is no token, is none; a cursor past the input is
--- refused
+-- refused; a key may stand right before its bracket, a value does not, but for a walk that begins there
 pub finds-hold : (finds 0x2802 (0x01 ∷ 0x28 ∷ 0x01 ∷ 0x00 ∷ 0x02 ∷ 0x28 ∷ 0x02 ∷ 0x28 ∷ 0x01 ∷ 0x00 ∷ []) atStart ≡ gives (some 6) atStart)
     × (finds 0x2801 (0x01 ∷ 0x28 ∷ 0x01 ∷ 0x00 ∷ 0x0f ∷ 0x00 ∷ 0x09 ∷ 0x00 ∷ []) atStart ≡ gives (some 0) atStart)
     × (finds 0x2802 (0x03 ∷ 0x00 ∷ 0x02 ∷ 0x28 ∷ 0x01 ∷ 0x00 ∷ 0x04 ∷ 0x00 ∷ []) atStart ≡ gives none atStart)
@@ -89,6 +104,10 @@ pub finds-hold : (finds 0x2802 (0x01 ∷ 0x28 ∷ 0x01 ∷ 0x00 ∷ 0x02 ∷ 0x2
     × (finds 0x2801 (0x01 ∷ 0x28 ∷ []) atStart ≡ gives none atStart)
     × (finds 0x2801 (0x01 ∷ 0x28 ∷ 0x01 ∷ []) atStart ≡ refuses (Eof 2) atStart)
     × (finds 0x2801 [] (cursor 1) ≡ refuses (BadPlace 1) (cursor 1))
+    × (finds 0x2801 (0x02 ∷ 0x28 ∷ 0x01 ∷ 0x28 ∷ 0x03 ∷ 0x00 ∷ 0x04 ∷ 0x00 ∷ []) atStart ≡ gives (some 2) atStart)
+    × (finds 0x2802 (0x02 ∷ 0x28 ∷ 0x01 ∷ 0x28 ∷ 0x03 ∷ 0x00 ∷ 0x04 ∷ 0x00 ∷ []) atStart ≡ gives none atStart)
+    × (finds 0x2801 (0x02 ∷ 0x28 ∷ 0x01 ∷ 0x00 ∷ 0x01 ∷ 0x28 ∷ 0x03 ∷ 0x00 ∷ []) atStart ≡ gives none atStart)
+    × (finds 0x2801 (0x02 ∷ 0x28 ∷ 0x01 ∷ 0x00 ∷ 0x01 ∷ 0x28 ∷ 0x03 ∷ 0x00 ∷ []) (cursor 4) ≡ gives (some 4) (cursor 4))
 unfolding le kind table entries find orPlain after refusalAt further andThen mapped _followed-by_ _giving_ next num string payload token step walkF tag
-    isOpen isClose isEqual deeper ahead isKey those keysOf within isPlain firstPlain cutBy firstly sought staying walkAt finds
-finds-hold = (refl, refl, refl, refl, refl, refl, refl, refl, refl)
+    isOpen isClose isEqual deeper ahead makesKey isKey those keysOf within isPlain firstPlain cutBy firstly sought staying walkAt finds
+finds-hold = (refl, refl, refl, refl, refl, refl, refl, refl, refl, refl, refl, refl, refl)

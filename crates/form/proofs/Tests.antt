@@ -3,14 +3,15 @@ use Prim.Native.Nat.{ℕ, suc, _+_}
 use native.Mathlib.Omega.{arith}
 use mathlib.Core.Path.{_≡_, refl, sym, ap, _∙_}
 use mathlib.Core.Bool.{Bool, true, false, not, _&&_, _||_}
-use mathlib.Core.Option.{none}
+use mathlib.Core.Option.{Option, none, some}
 use mathlib.Core.List.{List, [], _∷_}
 use lib.ListN.{length}
 use lib.Dec.{eqb}
-use Rattle.form.specs.Values.{Value}
+use Rattle.form.specs.Numbers.{pick}
+use Rattle.form.specs.Values.{Value, Equal, kind}
 use Rattle.form.specs.Spelling.{bit}
 use Rattle.form.specs.Saves.{Walk, done, cut, then}
-use Rattle.form.specs.Keys.{isOpen, isClose, isEqual, Around, deeper, onward, ahead, holds, Test, anyToken, isContainer, isStray, isKey, keptIf, those, keysOf, count}
+use Rattle.form.specs.Keys.{isOpen, isClose, isEqual, Around, deeper, onward, ahead, holds, Test, anyToken, isContainer, isStray, makesKey, isKey, keptIf, those, keysOf, count}
 
 length-kept : {A : Type 0} (b : Bool) (x : A) (xs : List A) → length (keptIf b x xs) ≡ bit b + length xs
 length-kept true x xs = omega arith
@@ -20,40 +21,53 @@ pub count-step : (test : Test) (a : Around) (p n : ℕ) (v : Value) (w : Walk) �
 unfolding count those
 count-step test a p n v w = length-kept (test a v w) (p, v) (those test (onward v a) w)
 
--- ---- the depth is all that they ask
+-- ---- the depth, and whether an Equal stands directly before, are all that they ask
 
--- a token at depth d, whatever stands before it
-abbrev pub atDepth : ℕ → Around
-atDepth d = record { before = none; depth = d }
+-- directly after an Equal or not, at depth d
+abbrev pub around : Bool → ℕ → Around
+around e d = record { before = pick e (some Equal) none; depth = d }
 
--- of where a token stands the test asks the depth alone
-abbrev pub ByDepth : Test → Type 0
-ByDepth test = (a b : Around) → a .depth ≡ b .depth → (v : Value) (w : Walk) → test a v w ≡ test b v w
+pub after-equal : (e : Bool) → holds isEqual (pick e (some Equal) none) ≡ e
+unfolding isEqual kind
+after-equal true = refl
+after-equal false = refl
 
-pub those-depth : (test : Test) → ByDepth test → (a b : Around) → a .depth ≡ b .depth → (w : Walk) → those test a w ≡ those test b w
+-- two tokens stand alike for the tests
+pub record Alike (a b : Around) : Type 0 where
+  pub depth : a .depth ≡ b .depth
+  pub equal : holds isEqual (a .before) ≡ holds isEqual (b .before)
+
+abbrev pub Near : Test → Type 0
+Near test = (a b : Around) → Alike a b → (v : Value) (w : Walk) → test a v w ≡ test b v w
+
+those-alike : (test : Test) → Near test → (a b : Around) → Alike a b → (w : Walk) → those test a w ≡ those test b w
 unfolding those
-those-depth test t a b e done = refl
-those-depth test t a b e (cut r) = refl
-those-depth test t a b e (then p n v w) =
-    rw (t a b e v w) (ap (keptIf (test b v w) (p, v)) (those-depth test t (onward v a) (onward v b) (ap (deeper v) e) w))
+those-alike test t a b e done = refl
+those-alike test t a b e (cut r) = refl
+those-alike test t a b e (then p n v w) =
+    rw (t a b e v w)
+    (ap (keptIf (test b v w) (p, v)) (those-alike test t (onward v a) (onward v b) (record { depth = ap (deeper v) (e .depth); equal = refl }) w))
 
-pub any-depth : ByDepth anyToken
-any-depth a b e v w = refl
+-- those after a token
+pub those-onward : (test : Test) → Near test → (e : Bool) (d : ℕ) (v : Value) (w : Walk) → those test (onward v (around e d)) w ≡ those test (around (isEqual v) (deeper v d)) w
+those-onward test t e d v = those-alike test t (onward v (around e d)) (around (isEqual v) (deeper v d)) (record { depth = refl; equal = sym (after-equal (isEqual v)) })
 
-pub container-depth : ByDepth isContainer
-container-depth a b e v w = refl
+pub any-near : Near anyToken
+any-near a b e v w = refl
 
-pub stray-depth : ByDepth isStray
-stray-depth a b e v w = ap (λ (d : ℕ). isClose v && eqb d 0) e
+pub container-near : Near isContainer
+container-near a b e v w = refl
 
-pub key-depth : ByDepth isKey
+pub stray-near : Near isStray
+stray-near a b e v w = ap (λ (d : ℕ). isClose v && eqb d 0) (e .depth)
+
+pub key-near : Near isKey
 unfolding isKey
-key-depth a b e v w = ap (λ (d : ℕ). not (isOpen v || isClose v || isEqual v) && eqb d 0 && holds isEqual (ahead w)) e
+key-near a b e v w = rw (e .depth, e .equal)
 
--- so a step leads from depth to depth
-pub depth-step : (test : Test) → ByDepth test → (d p n : ℕ) (v : Value) (w : Walk)
-    → count test (atDepth d) (then p n v w) ≡ bit (test (atDepth d) v w) + count test (atDepth (deeper v d)) w
+-- so a step leads on
+pub near-step : (test : Test) → Near test → (e : Bool) (d p n : ℕ) (v : Value) (w : Walk)
+    → count test (around e d) (then p n v w) ≡ bit (test (around e d) v w) + count test (around (isEqual v) (deeper v d)) w
 unfolding count
-depth-step test t d p n v w =
-    count-step test (atDepth d) p n v w
-    ∙ ap (λ (l : List (ℕ × Value)). bit (test (atDepth d) v w) + length l) (those-depth test t (onward v (atDepth d)) (atDepth (deeper v d)) refl w)
+near-step test t e d p n v w =
+    count-step test (around e d) p n v w ∙ ap (λ (l : List (ℕ × Value)). bit (test (around e d) v w) + length l) (those-onward test t e d v w)

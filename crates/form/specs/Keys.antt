@@ -62,9 +62,13 @@ isContainer a v w = isOpen v
 abbrev pub isStray : Test
 isStray a v w = isClose v && eqb (a .depth) 0
 
--- a token other than Open, Close and Equal, at depth 0, directly followed by Equal
+-- what follows makes a key of a token: Equal, or Open where the token is not itself directly after an Equal
+unfoldable pub makesKey : Bool → Option Value → Bool
+makesKey afterEqual next = holds isEqual next || (holds isOpen next && not afterEqual)
+
+-- a token other than Open, Close and Equal, at depth 0, that what directly follows makes a key
 unfoldable pub isKey : Test
-isKey a v w = not (isOpen v || isClose v || isEqual v) && eqb (a .depth) 0 && holds isEqual (ahead w)
+isKey a v w = not (isOpen v || isClose v || isEqual v) && eqb (a .depth) 0 && makesKey (holds isEqual (a .before)) (ahead w)
 
 -- ---- the tokens that pass
 

@@ -2,7 +2,7 @@
 use Prim.Native.Nat.{ℕ, _+_, _-_, _≤_, _<_}
 use native.Mathlib.Omega.{arith}
 use mathlib.Core.Path.{_≡_, refl, sym, ap, subst, _∙_}
-use mathlib.Core.Bool.{Bool, true, false, not, _&&_, _||_, or-true}
+use mathlib.Core.Bool.{Bool, true, false, not, _&&_, _||_, or-true, and-true}
 use mathlib.Core.Option.{Option, none, some}
 use mathlib.Core.List.{List, []}
 use lib.ListN.{length}
@@ -15,7 +15,7 @@ use Rattle.form.specs.Table.{Payload, number, text, colour, table, entries, fin
 use Rattle.form.specs.Refusals.{Fault, Refusal, refusalAt}
 use Rattle.form.specs.Readers.{Answer, found, refused, mapped, placed, at}
 use Rattle.form.specs.Reading.{next, num, string, rgb, payload, token}
-use Rattle.form.specs.Keys.{isEqual, ahead, holds}
+use Rattle.form.specs.Keys.{ahead, makesKey}
 use Rattle.form.specs.Calls.{Cursor, movedTo, positionOf, gives, refuses}
 use Rattle.form.specs.Finding.{Sought, keyAt, absent, notBefore, staying, walkAt}
 use Rattle.form.specs.Saves.{then}
@@ -25,15 +25,15 @@ use Rattle.form.proofs.Elsewhere.{both, eachId, listed, MissedAll, elsewhere}
 use Rattle.form.proofs.Places.{at-giving, at-nothing}
 use Rattle.form.proofs.ById.{OneKind, after-kind}
 use Rattle.form.proofs.Walking.{from, from-end}
-use Rattle.form.proofs.Seeking.{seeking, seeking-done, seeking-cut, ahead-id, ahead-none, past-open, past-close, past-other, past-id, past-no-key, at-key}
+use Rattle.form.proofs.Seeking.{keyHere, seeking, seeking-done, seeking-cut, ahead-id, ahead-none, past-open, past-close, past-equal, past-other, past-id, past-no-key, at-key}
 use Rattle.payload.specs.Answers.{faultOf}
 use Rattle.payload.specs.declared.answers.LexError.{LexError}
 use Rattle.token.specs.Tokens.{tokenOf, tokenAt}
 use Rattle.token.proofs.Walks.{Read, read, token-refused}
 use Rattle.lexeme.specs.declared.LexemeId.{LexemeId}
-use Rattle.lexer.specs.Passing.{stood, Ends, Past, Tells, Told, ToldAfter, asked}
+use Rattle.lexer.specs.Passing.{stood, Ends, Past, Tells, Told, ToldAfter, aheadAt, asked}
 use Rattle.lexer.specs.declared.finding.Passed.{Passed}
-use Rattle.lexer.specs.declared.finding.Passed.the-variants.{Open, Close, Plain, Other, Refused}
+use Rattle.lexer.specs.declared.finding.Passed.the-variants.{Open, Close, Equal, Plain, Other, Refused}
 
 -- what is known of a token
 pub after-id : (i : ℕ) (s : List ℕ) (p : ℕ) {a : Answer Value} {r : Passed} → a ≡ at (payload (after i)) s p → ToldAfter i s p r → Told a r
@@ -44,9 +44,9 @@ known {a} h e = subst (Told a) e h
 
 -- ---- what follows an id
 
--- neither an end of a container nor an id
+-- neither an end of a container nor Equal nor an id
 abbrev middle : ℕ → Bool
-middle k = ltb 1 k && ltb k 14
+middle k = ltb 2 k && ltb k 14
 
 -- what follows, by itself, for such a value
 abbrev pub spans : Payload → Option (Option ℕ)
@@ -96,10 +96,11 @@ made-tells : {q : Payload} {o : Option ℕ} → Made q o → (s : List ℕ) (p :
 unfolding mapped
 made-tells m s p (Open n) h = absurd h
 made-tells m s p (Close n) h = absurd h
+made-tells m s p (Equal n) h = absurd h
 made-tells m s p (Plain i n) h = absurd h
 made-tells m s p (Other n) h =
-    let b = both (ltb 1 (kind (m .value (h .0)))) (ltb (kind (m .value (h .0))) 14) (m .between (h .0)) in
-    (m .value (h .0), ltb-true 1 (kind (m .value (h .0))) (b .0), ltb-true (kind (m .value (h .0))) 14 (b .1), m .reads s p ∙ ap (mapped (m .value)) (h .1))
+    let b = both (ltb 2 (kind (m .value (h .0)))) (ltb (kind (m .value (h .0))) 14) (m .between (h .0)) in
+    (m .value (h .0), ltb-true 2 (kind (m .value (h .0))) (b .0), ltb-true (kind (m .value (h .0))) 14 (b .1), m .reads s p ∙ ap (mapped (m .value)) (h .1))
 made-tells m s p (Refused e) h = m .reads s p ∙ ap (mapped (m .value)) h
 
 -- ---- the arms
@@ -115,6 +116,10 @@ module _ (i : ℕ) (s : List ℕ) (p : ℕ) where
   pub by-close : i ≡ 0x0004 → ToldAfter i s p (Close p)
   unfolding after orPlain find entries table
   by-close e = record { is = rw e (at-nothing F.Close s p) }
+
+  pub by-equal : i ≡ 0x0001 → ToldAfter i s p (Equal p)
+  unfolding after orPlain find entries table
+  by-equal e = record { is = rw e (at-nothing F.Equal s p) }
 
   pub by-colour : i ≡ 0x0243 → {r : Passed} → Told (at rgb s p) r → ToldAfter i s p r
   unfolding after orPlain find entries table payload
@@ -143,73 +148,96 @@ elsewhere-plain other kss e i m h s p =
 
 -- ---- what is asked of an id that is to be a key
 
-module _ (i j d : ℕ) (s : List ℕ) (p : ℕ) where
-  pub another : eqb j i ≡ false → false ≡ asked i j d s p
+module _ (e : Bool) (s : List ℕ) (p : ℕ) where
+  pub before-none : {why : Fault} → at (num 2) s p ≡ refused why → false ≡ makesKey e (aheadAt s p)
+  unfolding aheadAt walkAt from
+  before-none f = sym (ahead-none s p e f)
+
+  -- by the id that stands there: Equal, Open after no Equal, or neither
+  module _ {k n : ℕ} (f : at (num 2) s p ≡ found k n) where
+    before-id : (eqb k 0x0001 || (eqb k 0x0003 && not e)) ≡ makesKey e (aheadAt s p)
+    unfolding aheadAt walkAt from
+    before-id = sym (ahead-id s p e f)
+
+    pub before-equal : eqb k 0x0001 ≡ true → true ≡ makesKey e (aheadAt s p)
+    before-equal g = rw g at before-id
+
+    pub before-value : eqb k 0x0001 ≡ false → e ≡ true → false ≡ makesKey e (aheadAt s p)
+    before-value g h = sym (rw (g, h) (none (eqb k 0x0003))) ∙ before-id
+      where
+        none : (b : Bool) → b && false ≡ false
+        none true = refl
+        none false = refl
+
+    pub before-open : eqb k 0x0001 ≡ false → e ≡ false → eqb k 0x0003 ≡ makesKey e (aheadAt s p)
+    before-open g h = sym (rw (g, h) (and-true (eqb k 0x0003))) ∙ before-id
+
+module _ (i j : ℕ) (e : Bool) (d : ℕ) (s : List ℕ) (p : ℕ) where
+  pub another : eqb j i ≡ false → false ≡ asked i j e d s p
   unfolding asked
-  another e = rw e
+  another f = rw f
 
-  module _ (e : eqb j i ≡ true) where
-    pub inner : (d ≡ 0 → ⊥) → false ≡ asked i j d s p
-    unfolding asked
-    inner h = rw (e, ne-eqb d 0 h)
+  pub inner : eqb j i ≡ true → (d ≡ 0 → ⊥) → false ≡ asked i j e d s p
+  unfolding asked
+  inner f h = rw (f, ne-eqb d 0 h)
 
-    pub before-none : d ≡ 0 → {why : Fault} → at (num 2) s p ≡ refused why → false ≡ asked i j d s p
-    unfolding asked walkAt from
-    before-none h q = rw (e, eq-eqb d 0 h) (sym (ahead-none s p q))
-
-    pub before-id : d ≡ 0 → {k n : ℕ} → at (num 2) s p ≡ found k n → eqb k 0x0001 ≡ asked i j d s p
-    unfolding asked walkAt from
-    before-id h q = rw (e, eq-eqb d 0 h) (sym (ahead-id s p q))
+  pub at-top : eqb j i ≡ true → d ≡ 0 → {b : Bool} → b ≡ makesKey e (aheadAt s p) → b ≡ asked i j e d s p
+  unfolding asked
+  at-top f h q = rw (f, eq-eqb d 0 h) q
 
 -- ---- where the walk goes
 
--- what is sought from place p at depth d is sought from place n at depth e, with fewer bytes left; the depth stays below the place
-pub record Leads (i d : ℕ) (s : List ℕ) (p e n : ℕ) : Type 0 where
-  pub same : seeking i e (from s n) ≡ seeking i d (from s p)
+-- what is sought from place p, directly after an Equal or not and at depth d, is sought from place n and so on, with fewer bytes left; the
+-- depth stays below the place
+pub record Leads (i : ℕ) (e : Bool) (d : ℕ) (s : List ℕ) (p : ℕ) (e₂ : Bool) (d₂ n : ℕ) : Type 0 where
+  pub same : seeking i e₂ d₂ (from s n) ≡ seeking i e d (from s p)
   pub less : length s - n < length s - p
-  pub deep : d ≤ p → e ≤ n
+  pub deep : d ≤ p → d₂ ≤ n
 
-module _ (i d : ℕ) (s : List ℕ) (p : ℕ) where
-  leads : {v : Value} {n e : ℕ} → at token s p ≡ found v n → seeking i d (then p (n - p) v (from s n)) ≡ seeking i e (from s n) → e ≤ d + 1 → Leads i d s p e n
-  leads {v} {n} {e} h q l =
+module _ (i : ℕ) (e : Bool) (d : ℕ) (s : List ℕ) (p : ℕ) where
+  leads : {v : Value} {n d₂ : ℕ} {e₂ : Bool} → at token s p ≡ found v n → seeking i e d (then p (n - p) v (from s n)) ≡ seeking i e₂ d₂ (from s n) → d₂ ≤ d + 1 → Leads i e d s p e₂ d₂ n
+  leads {v} {n} h q l =
       let r : Read s p v n = read s p h in
       record {
-        same = sym (ap (seeking i d) (r .walks) ∙ q);
+        same = sym (ap (seeking i e d) (r .walks) ∙ q);
         less = omega (arith, r .on, r .there);
         deep = λ k. omega (arith, r .on);
       }
 
-  pub to-open : {n : ℕ} → Told (at token s p) (Open n) → Leads i d s p (d + 1) n
-  to-open {n} h = leads (h .is) (past-open i d p (n - p) (from s n)) (omega arith)
+  pub to-open : {n : ℕ} → Told (at token s p) (Open n) → Leads i e d s p false (d + 1) n
+  to-open {n} h = leads (h .is) (past-open i e d p (n - p) (from s n)) (omega arith)
 
-  pub to-close : {n : ℕ} → Told (at token s p) (Close n) → Leads i d s p (d - 1) n
-  to-close {n} h = leads (h .is) (past-close i d p (n - p) (from s n)) (omega arith)
+  pub to-close : {n : ℕ} → Told (at token s p) (Close n) → Leads i e d s p false (d - 1) n
+  to-close {n} h = leads (h .is) (past-close i e d p (n - p) (from s n)) (omega arith)
 
-  pub to-other : {n : ℕ} → Told (at token s p) (Other n) → Leads i d s p d n
-  to-other {n} h = let k = h .is in leads (k .3) (past-other i d p (n - p) (from s n) (k .0) (k .1) (k .2)) (omega arith)
+  pub to-equal : {n : ℕ} → Told (at token s p) (Equal n) → Leads i e d s p true d n
+  to-equal {n} h = leads (h .is) (past-equal i e d p (n - p) (from s n)) (omega arith)
+
+  pub to-other : {n : ℕ} → Told (at token s p) (Other n) → Leads i e d s p false d n
+  to-other {n} h = let k = h .is in leads (k .3) (past-other i e d p (n - p) (from s n) (k .0) (k .1) (k .2)) (omega arith)
 
   -- an id, by what is asked of it
-  module _ {j : LexemeId} {n : ℕ} (h : Told (at token s p) (Plain j n)) {b : Bool} (q : b ≡ asked i (j .0) d s n) where
-    pub to-plain : b ≡ false → Leads i d s p d n
-    unfolding asked walkAt from
-    to-plain e = go (eqb (j .0) i) refl (sym q ∙ e)
+  module _ {j : LexemeId} {n : ℕ} (h : Told (at token s p) (Plain j n)) {b : Bool} (q : b ≡ asked i (j .0) e d s n) where
+    pub to-plain : b ≡ false → Leads i e d s p false d n
+    unfolding asked aheadAt walkAt from
+    to-plain f = go (eqb (j .0) i) refl (sym q ∙ f)
       where
-        go : (x : Bool) → eqb (j .0) i ≡ x → x && (eqb d 0 && holds isEqual (ahead (from s n))) ≡ false → Leads i d s p d n
-        go true f q = leads (h .is) (past-no-key i d p (n - p) (from s n) (j .0) q) (omega arith)
-        go false f q = leads (h .is) (past-id i d p (n - p) (from s n) (j .0) f) (omega arith)
+        go : (x : Bool) → eqb (j .0) i ≡ x → x && keyHere e d (from s n) ≡ false → Leads i e d s p false d n
+        go true f q = leads (h .is) (past-no-key i e d p (n - p) (from s n) (j .0) q) (omega arith)
+        go false f q = leads (h .is) (past-id i e d p (n - p) (from s n) (j .0) f) (omega arith)
 
-    pub to-key : b ≡ true → seeking i d (from s p) ≡ keyAt p
-    unfolding asked walkAt from
-    to-key e =
-        let x = both (eqb (j .0) i) (eqb d 0 && holds isEqual (ahead (from s n))) (sym q ∙ e) in
-        ap (seeking i d) (read s p (h .is) .walks) ∙ at-key i d p (n - p) (from s n) (j .0) (x .0) (x .1)
+    pub to-key : b ≡ true → seeking i e d (from s p) ≡ keyAt p
+    unfolding asked aheadAt walkAt from
+    to-key f =
+        let x = both (eqb (j .0) i) (keyHere e d (from s n)) (sym q ∙ f) in
+        ap (seeking i e d) (read s p (h .is) .walks) ∙ at-key i e d p (n - p) (from s n) (j .0) (x .0) (x .1)
 
-  pub to-refused : p < length s → {e : LexError} → Told (at token s p) (Refused e) → seeking i d (from s p) ≡ notBefore (refusalAt p (faultOf e))
+  pub to-refused : p < length s → {f : LexError} → Told (at token s p) (Refused f) → seeking i e d (from s p) ≡ notBefore (refusalAt p (faultOf f))
   unfolding tokenAt placed
-  to-refused l {e} h = ap (seeking i d) (token-refused s p l (ap (placed tokenOf) (h .is))) ∙ seeking-cut i d (refusalAt p (faultOf e))
+  to-refused l {f} h = ap (seeking i e d) (token-refused s p l (ap (placed tokenOf) (h .is))) ∙ seeking-cut i e d (refusalAt p (faultOf f))
 
-  pub to-end : length s ≤ p → seeking i d (from s p) ≡ absent
-  to-end h = ap (seeking i d) (from-end s p h) ∙ seeking-done i d
+  pub to-end : length s ≤ p → seeking i e d (from s p) ≡ absent
+  to-end h = ap (seeking i e d) (from-end s p h) ∙ seeking-done i e d
 
 -- ---- what is answered
 

@@ -10,11 +10,11 @@ use Rattle.form.specs.Values.{Value, kind}
 use Rattle.form.specs.Readers.{Answer, found, refused, at}
 use Rattle.form.specs.Table.{after}
 use Rattle.form.specs.Reading.{next, string, payload}
-use Rattle.form.specs.Keys.{isEqual, ahead, holds}
+use Rattle.form.specs.Keys.{ahead, makesKey}
 use Rattle.form.specs.Finding.{walkAt}
 use Rattle.payload.specs.Answers.{faultOf}
 use Rattle.lexer.specs.declared.finding.Passed.{Passed}
-use Rattle.lexer.specs.declared.finding.Passed.the-variants.{Open, Close, Plain, Other, Refused}
+use Rattle.lexer.specs.declared.finding.Passed.the-variants.{Open, Close, Equal, Plain, Other, Refused}
 
 -- what follows an id: so many bytes, or a text
 abbrev pub stood : Option ℕ → List ℕ → ℕ → Answer (List ℕ)
@@ -25,6 +25,7 @@ stood (some w) s p = at (next w) s p
 abbrev pub Ends : Answer (List ℕ) → Passed → Type 0
 Ends a (Open n) = ⊥
 Ends a (Close n) = ⊥
+Ends a (Equal n) = ⊥
 Ends a (Plain i n) = ⊥
 Ends a (Other n) = (t : List ℕ) × (a ≡ found t n)
 Ends a (Refused e) = a ≡ refused (faultOf e)
@@ -32,12 +33,13 @@ Ends a (Refused e) = a ≡ refused (faultOf e)
 pub record Past (o : Option ℕ) (s : List ℕ) (p : ℕ) (r : Passed) : Type 0 where
   pub is : Ends (stood o s p) r
 
--- the token that a reading gives: any other is no end of a container, and no id
+-- the token that a reading gives: any other is no end of a container, not Equal, and no id
 abbrev pub Tells : Answer Value → Passed → Type 0
 Tells a (Open n) = a ≡ found F.Open n
 Tells a (Close n) = a ≡ found F.Close n
+Tells a (Equal n) = a ≡ found F.Equal n
 Tells a (Plain i n) = a ≡ found (F.Id (i .0)) n
-Tells a (Other n) = (v : Value) × (1 < kind v) × (kind v < 14) × (a ≡ found v n)
+Tells a (Other n) = (v : Value) × (2 < kind v) × (kind v < 14) × (a ≡ found v n)
 Tells a (Refused e) = a ≡ refused (faultOf e)
 
 pub record Told (a : Answer Value) (r : Passed) : Type 0 where
@@ -47,6 +49,10 @@ pub record Told (a : Answer Value) (r : Passed) : Type 0 where
 pub record ToldAfter (i : ℕ) (s : List ℕ) (p : ℕ) (r : Passed) : Type 0 where
   pub is : Tells (at (payload (after i)) s p) r
 
--- what is asked of the id j at depth d, which ends at place p: that it is the id i, stands at depth 0, and is directly followed by Equal
-unfoldable pub asked : ℕ → ℕ → ℕ → List ℕ → ℕ → Bool
-asked i j d s p = eqb j i && (eqb d 0 && holds isEqual (ahead (walkAt s (record { at = p }))))
+-- the token at place p
+unfoldable pub aheadAt : List ℕ → ℕ → Option Value
+aheadAt s p = ahead (walkAt s (record { at = p }))
+
+-- what is asked of the id j, directly after an Equal or not, at depth d, which ends at place p: that it is the id i, and a key
+unfoldable pub asked : ℕ → ℕ → Bool → ℕ → List ℕ → ℕ → Bool
+asked i j e d s p = eqb j i && (eqb d 0 && makesKey e (aheadAt s p))

@@ -4,9 +4,10 @@ ghost use Prim.Native.Nat.{_-_};
 ghost use mathlib.Core.Option.{none, some};
 ghost use Rattle.form.specs.Readers.{at as readAt};
 ghost use Rattle.form.specs.Reading.{rgb, token};
+ghost use Rattle.form.specs.Keys.{makesKey};
 ghost use Rattle.form.specs.Finding.{sought, staying, walkAt, finds};
 ghost use Rattle.lexer.specs.Calls.{cursorOf, findCall};
-ghost use Rattle.lexer.specs.Passing.{Past, Told, ToldAfter, asked};
+ghost use Rattle.lexer.specs.Passing.{Past, Told, ToldAfter, aheadAt, asked};
 use crate::Lexer;
 use crate::Place;
 use crate::answers::LexFind;
@@ -17,10 +18,11 @@ use payload::ReadId;
 use payload::ReadRgb;
 use payload::ReadString;
 
-// What the walk goes by, of a token, and the place after it: one end of a container, a plain id, or anything else.
+// What the walk goes by, of a token, and the place after it: one end of a container, Equal, a plain id, or anything else.
 enum Passed {
     Open(usize),
     Close(usize),
+    Equal(usize),
     Plain(LexemeId, usize),
     Other(usize),
     Refused(LexError),
@@ -66,7 +68,8 @@ fn by_id(bytes: &[u8], at: usize, id: LexemeId) -> Passed
     match n {
         number::OPEN => Passed::Open(at),
         number::CLOSE => Passed::Close(at),
-        number::EQUAL | number::EMPTY_STRING => fixed(bytes, at, 0),
+        number::EQUAL => Passed::Equal(at),
+        number::EMPTY_STRING => fixed(bytes, at, 0),
         number::RGB => colour(bytes, at),
         number::QUOTED | number::UNQUOTED | number::STR_SAV03 => string(bytes, at),
         number::BOOL | number::LOOKUP_U8 | number::LOOKUP_U8_ALT | number::LOOKUP_U8_SAV03 => {
@@ -115,9 +118,33 @@ fn pass(bytes: &[u8], at: usize) -> Passed
     by_id(bytes, next, id)
 }
 
-// Whether the id is the one that is sought, and a key: it stands at a depth, and ends at a place. Equal is told by its id.
-fn is_key(bytes: &[u8], at: usize, depth: usize, id: LexemeId, wanted: LexemeId) -> bool
-    ensures { λ r. ⌜ r ≡ asked (wanted .0) (id .0) depth (now (bytes .entry)) at ⌝ }
+// Whether the token at a place, told by its id, makes a key of the one that ends there, which is a value if it is directly after an Equal.
+fn makes_key(bytes: &[u8], at: usize, value: bool) -> bool
+    ensures { λ r. ⌜ r ≡ makesKey value (aheadAt (now (bytes .entry)) at) ⌝ }
+{
+    let read = payload::read_id(bytes, at);
+    let ReadId::Got(follower, _) = read else {
+        return false;
+    };
+    if follower.is(LexemeId::EQUAL) {
+        return true;
+    }
+    if value {
+        return false;
+    }
+    follower.is(LexemeId::OPEN)
+}
+
+// Whether the id is the one that is sought, and a key: it is a value or not, stands at a depth, and ends at a place.
+fn is_key(
+    bytes: &[u8],
+    at: usize,
+    value: bool,
+    depth: usize,
+    id: LexemeId,
+    wanted: LexemeId,
+) -> bool
+    ensures { λ r. ⌜ r ≡ asked (wanted .0) (id .0) value depth (now (bytes .entry)) at ⌝ }
 {
     if !id.is(wanted) {
         return false;
@@ -125,11 +152,7 @@ fn is_key(bytes: &[u8], at: usize, depth: usize, id: LexemeId, wanted: LexemeId)
     if depth != 0 {
         return false;
     }
-    let read = payload::read_id(bytes, at);
-    let ReadId::Got(follower, _) = read else {
-        return false;
-    };
-    follower.is(LexemeId::EQUAL)
+    makes_key(bytes, at, value)
 }
 
 // The depth after a Close.
@@ -146,8 +169,11 @@ impl Lexer {
     {
         let mut at = self.at;
         let mut depth: usize = 0;
+        let mut equal = false;
         while at < bytes.len() {
             let passed = pass(bytes, at);
+            let value = equal;
+            equal = false;
             match passed {
                 Passed::Open(next) => {
                     depth += 1;
@@ -157,8 +183,12 @@ impl Lexer {
                     depth = higher(depth);
                     at = next;
                 }
+                Passed::Equal(next) => {
+                    equal = true;
+                    at = next;
+                }
                 Passed::Plain(found, next) => {
-                    if is_key(bytes, next, depth, found, id) {
+                    if is_key(bytes, next, value, depth, found, id) {
                         return LexFind::Found(self.moved(at).position());
                     }
                     at = next;

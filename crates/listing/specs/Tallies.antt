@@ -2,26 +2,29 @@
 use mathlib.Core.Path.{_≡_}
 use Prim.Native.Nat.{ℕ, _+_, _≤_}
 use mathlib.Core.Bool.{false, not, _&&_, _||_}
+use mathlib.Core.Option.{some}
 use mathlib.Core.List.{List}
 use lib.Dec.{eqb}
 use Rattle.form.specs.Values.{Value}
 use Rattle.form.specs.Spelling.{bit}
-use Rattle.form.specs.Keys.{Counts, isOpen, isClose, isEqual, deeper}
+use Rattle.form.specs.Keys.{Counts, isOpen, isClose, isEqual, deeper, makesKey}
 use Rattle.token.specs.Tokens.{valueOf}
 use Rattle.token.specs.declared.Token.{Token}
 use Rattle.listing.specs.declared.tally.Tally.{Tally}
 
 abbrev pub noneYet : Tally
-noneYet = record { tokens = 0; containers = 0; keys = 0; strays = 0; depth = 0; candidate = false }
+noneYet = record { tokens = 0; containers = 0; keys = 0; strays = 0; depth = 0; equal = false; value = false; candidate = false }
 
--- a token more: an Equal makes a key of the token before it, if that could be one
+-- a token more: it makes a key of the one before it, if that could be one
 abbrev pub tallied : Tally → Value → Tally
 tallied c v = record {
   tokens = c .tokens + 1;
   containers = c .containers + bit (isOpen v);
-  keys = c .keys + bit (isEqual v && c .candidate);
+  keys = c .keys + bit (c .candidate && makesKey (c .value) (some v));
   strays = c .strays + bit (isClose v && eqb (c .depth) 0);
   depth = deeper v (c .depth);
+  equal = isEqual v;
+  value = c .equal;
   candidate = not (isOpen v || isClose v || isEqual v) && eqb (c .depth) 0;
 }
 

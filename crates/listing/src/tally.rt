@@ -1,17 +1,24 @@
 // The counts of a save, a token at a time.
 ghost use mathlib.Core.Path.{_≡_};
 ghost use Prim.Native.Nat.{_<_};
+ghost use mathlib.Core.Bool.{_&&_};
+ghost use mathlib.Core.Option.{some};
 ghost use Rattle.form.specs.Numbers.{MAX};
+ghost use Rattle.form.specs.Values.{Open};
+ghost use Rattle.form.specs.Keys.{makesKey};
 ghost use Rattle.listing.specs.Tallies.{Sound, noneYet, TalliesTo};
 use token::Token;
 
-// What has been counted up to a place, the depth there, and whether the token before it is a key if Equal comes.
+// What has been counted up to a place, and the depth there; of the token before it, whether it is Equal, whether it is itself directly after an
+// Equal, and whether what follows can make a key of it.
 pub(crate) struct Tally {
     pub tokens: usize,
     pub containers: usize,
     pub keys: usize,
     pub strays: usize,
     pub depth: usize,
+    pub equal: bool,
+    pub value: bool,
     pub candidate: bool,
 }
 
@@ -25,8 +32,20 @@ impl Tally {
             keys: 0,
             strays: 0,
             depth: 0,
+            equal: false,
+            value: false,
             candidate: false,
         }
+    }
+
+    // Whether Open makes a key of the token before it.
+    fn bracketed(self) -> bool
+        ensures { λ r. ⌜ r ≡ (self .candidate && makesKey (self .value) (some Open)) ⌝ }
+    {
+        if self.value {
+            return false;
+        }
+        self.candidate
     }
 
     // The tally after one more token.
@@ -37,11 +56,16 @@ impl Tally {
     {
         let mut c = self;
         c.tokens += 1;
+        c.equal = false;
+        c.value = self.equal;
         c.candidate = false;
         match t {
             Token::Open => {
                 c.containers += 1;
                 c.depth += 1;
+                if self.bracketed() {
+                    c.keys += 1;
+                }
             }
             Token::Close => {
                 if c.depth == 0 {
@@ -51,6 +75,7 @@ impl Tally {
                 }
             }
             Token::Equal => {
+                c.equal = true;
                 if self.candidate {
                     c.keys += 1;
                 }

@@ -56,6 +56,7 @@ fn calls(run: &mut Run, rng: &mut Rng, arguments: &Arguments) {
     stages::generated(run, rng, arguments.cases);
     stages::writing(run, rng);
     stages::fast(run, rng);
+    stages::few_tokens(run);
     stages::finding(run, rng, arguments.cases / 4);
     stages::whole(run, rng, arguments.cases);
     stages::sources(run, rng, arguments.cases);

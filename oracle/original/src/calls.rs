@@ -5,6 +5,7 @@ use crate::counted::counted;
 use crate::util::get_split;
 use protocol::{Answer, Call, Colour, code};
 use std::hint::black_box;
+use std::mem::take;
 
 pub fn kind(id: u16) -> u32 {
     LexemeId::new(id).into_kind() as u32
@@ -70,20 +71,30 @@ pub fn count_tokens(bytes: &[u8]) -> Answer {
 pub fn find_key(bytes: &[u8], at: usize, id: u16) -> Option<Answer> {
     let mut lexer = Lexer::new(bytes);
     lexer.read_bytes(at).ok()?;
+    let found = |key: usize| Some(Answer::found(at, &[key as u64]));
     let mut depth = 0u64;
+    // Of the token before: the id's position and whether an Equal stands before it, if it is the id; whether it is Equal.
     let mut candidate = None;
+    let mut equal = false;
     loop {
         let position = lexer.position();
         let before = candidate.take();
+        let valued = take(&mut equal);
         match lexer.next_token() {
             Ok(Some(Token::Equal)) => {
-                if let Some(key) = before {
-                    return Some(Answer::found(at, &[key as u64]));
+                if let Some((key, _)) = before {
+                    return found(key);
                 }
+                equal = true;
             }
-            Ok(Some(Token::Open)) => depth += 1,
+            Ok(Some(Token::Open)) => {
+                if let Some((key, false)) = before {
+                    return found(key);
+                }
+                depth += 1;
+            }
             Ok(Some(Token::Close)) => depth = depth.saturating_sub(1),
-            Ok(Some(Token::Id(found))) if found == id && depth == 0 => candidate = Some(position),
+            Ok(Some(Token::Id(this))) if this == id && depth == 0 => candidate = Some((position, valued)),
             Ok(Some(_)) => {}
             Ok(None) => return Some(Answer::none(at)),
             Err(error) => return Some(refusal(error, at)),

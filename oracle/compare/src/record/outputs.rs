@@ -9,7 +9,7 @@ use crate::stages::{FEW_VALUES, of_number, specimen_requests};
 use crate::subjects::{Fast, Form, Whole, Write};
 use protocol::{Answer, Colour, Request, Spelling, Token, WORDS, code};
 use saves::ids::TEXTS;
-use saves::{Flavour, Plan, RESERVED, Rng, bad_colour, flip, narrow, random_bytes, random_ids, save, token};
+use saves::{Flavour, Plan, RESERVED, Rng, bad_colour, bare, flip, narrow, random_bytes, random_ids, save, token};
 
 /// The ends of one to eight bytes, of signed numbers, of lookups that can be written, and of compact numbers.
 const ENDS: [u64; 16] = [
@@ -42,6 +42,10 @@ pub fn all(sample: &mut Sample, seed: u64) {
     }
     noise(sample, &mut rng);
     steps(sample, &mut rng);
+    for flavour in Flavour::ALL {
+        let bytes = save(Plan { flavour, size: 40, longest_text: 12 }, &mut rng);
+        whole(sample, &bare(&bytes, &mut rng));
+    }
 }
 
 /// Every kind with the ends of its values, and each reserved id as a plain one.

@@ -2,7 +2,7 @@
 
 use crate::run::Run;
 use crate::subjects::Find;
-use saves::{Flavour, Plan, RESERVED, Rng, bad_colour, flip, random_bytes, random_ids, save};
+use saves::{Flavour, Plan, RESERVED, Rng, bad_colour, flip, random_bytes, random_ids, save_of_a_build};
 
 pub fn finding(run: &mut Run, rng: &mut Rng, cases: usize) {
     each_id(run);
@@ -14,17 +14,22 @@ pub fn finding(run: &mut Run, rng: &mut Rng, cases: usize) {
     }
 }
 
-/// Each id as a key, inside a container and behind a stray Close, and then as none.
+/// Each id before Equal, inside a container and behind a stray Close, and then as no key; and before Open: after Equal,
+/// inside a container and behind it.
 fn each_id(run: &mut Run) {
     for id in 0..=u16::MAX {
-        let [first, second] = id.to_le_bytes();
-        let bytes = [3, 0, first, second, 1, 0, 4, 0, 4, 0, first, second, 1, 0, first, second, first, second];
-        let near = RESERVED.iter().any(|reserved| reserved.abs_diff(id) <= 2);
-        let cursors = if near { 0..=bytes.len() + 1 } else { 0..=2 };
-        for at in cursors {
-            for sought in [id, id ^ 1] {
-                run.check(&Find::new(&bytes, at, sought));
-            }
+        let [a, b] = id.to_le_bytes();
+        one_id(run, id, &[3, 0, a, b, 1, 0, 4, 0, 4, 0, a, b, 1, 0, a, b, a, b]);
+        one_id(run, id, &[1, 0, a, b, 3, 0, a, b, 3, 0, 4, 0, 4, 0, a, b, 3, 0]);
+    }
+}
+
+fn one_id(run: &mut Run, id: u16, bytes: &[u8]) {
+    let near = RESERVED.iter().any(|reserved| reserved.abs_diff(id) <= 2);
+    let cursors = if near { 0..=bytes.len() + 1 } else { 0..=2 };
+    for at in cursors {
+        for sought in [id, id ^ 1] {
+            run.check(&Find::new(bytes, at, sought));
         }
     }
 }
@@ -45,7 +50,7 @@ fn one(run: &mut Run, rng: &mut Rng, case: usize) {
 /// Some containers and keys at depth 0.
 fn small(rng: &mut Rng, flavour: Flavour) -> Vec<u8> {
     let size = rng.below(48);
-    save(Plan { flavour, size, longest_text: 8 }, rng)
+    save_of_a_build(Plan { flavour, size, longest_text: 8 }, rng)
 }
 
 /// Also past the end.
@@ -74,7 +79,7 @@ fn damaged(run: &mut Run, rng: &mut Rng, flavour: Flavour) {
 /// Some thousand bytes, whole, damaged, and cut somewhere.
 fn middling(run: &mut Run, rng: &mut Rng, flavour: Flavour) {
     let size = rng.below(2000);
-    let mut bytes = save(Plan { flavour, size, longest_text: 400 }, rng);
+    let mut bytes = save_of_a_build(Plan { flavour, size, longest_text: 400 }, rng);
     some_keys(run, rng, &bytes);
     flip(rng, &mut bytes);
     bytes.truncate(bytes.len() - rng.below(bytes.len().min(8) + 1));

@@ -3,6 +3,7 @@
 mod boundary;
 mod exhaustive;
 mod fast;
+mod few_tokens;
 mod finding;
 mod generated;
 mod programs;
@@ -16,6 +17,7 @@ mod writing;
 pub use boundary::boundary;
 pub use exhaustive::{all_ids, all_kinds, all_short_inputs, splits};
 pub use fast::fast;
+pub use few_tokens::few_tokens;
 pub use finding::finding;
 pub use generated::generated;
 pub use programs::programs;

@@ -2,7 +2,7 @@
 
 use crate::run::Run;
 use crate::subjects::{Printed, Program};
-use saves::{Flavour, Plan, Rng, bad_colour, flip, narrow, random_bytes, random_ids, save};
+use saves::{Flavour, Plan, Rng, bad_colour, flip, narrow, random_bytes, random_ids, save_of_a_build};
 use std::borrow::Cow;
 use std::env;
 use std::path::{Path, PathBuf};
@@ -54,7 +54,7 @@ fn one(rng: &mut Rng, case: usize) -> Vec<u8> {
         1 => 36_000,
         _ => 400,
     };
-    let mut bytes = save(Plan { flavour, size: rng.below(size), longest_text: 40 }, rng);
+    let mut bytes = save_of_a_build(Plan { flavour, size: rng.below(size), longest_text: 40 }, rng);
     if !rng.one_in(4) {
         narrow(&mut bytes);
     }
@@ -66,5 +66,5 @@ fn one(rng: &mut Rng, case: usize) -> Vec<u8> {
 
 fn small(rng: &mut Rng, flavour: Flavour) -> Vec<u8> {
     let closes = [4, 0].repeat(rng.below(3));
-    [closes, save(Plan { flavour, size: rng.below(64), longest_text: 12 }, rng)].concat()
+    [closes, save_of_a_build(Plan { flavour, size: rng.below(64), longest_text: 12 }, rng)].concat()
 }

@@ -4,7 +4,7 @@ use crate::run::Run;
 use crate::subjects::{Fast, Form, Kept, Limit, Whole};
 use protocol::Spelling;
 use saves::ids::TEXTS;
-use saves::{Flavour, Plan, Rng, bad_colour, flip, narrow, random_bytes, random_ids, save};
+use saves::{Flavour, Plan, Rng, bad_colour, flip, narrow, random_bytes, random_ids, save, save_of_a_build};
 
 pub fn whole(run: &mut Run, rng: &mut Rng, cases: usize) {
     each_id(run);
@@ -21,11 +21,13 @@ pub fn whole(run: &mut Run, rng: &mut Rng, cases: usize) {
     limits(run);
 }
 
-/// Each id, with some bytes after it and again.
+/// Each id, with some bytes after it and again; the dump also of the id before Open: at the start, after Equal, and
+/// inside a container.
 fn each_id(run: &mut Run) {
     for id in 0..=u16::MAX {
-        let [first, second] = id.to_le_bytes();
-        one_save(run, &[first, second, 1, 0, 4, 0, first, second, 1, 0, 3, 0, first, second, 1, 0]);
+        let [a, b] = id.to_le_bytes();
+        one_save(run, &[a, b, 1, 0, 4, 0, a, b, 1, 0, 3, 0, a, b, 1, 0]);
+        one_dump(run, &[a, b, 3, 0, 4, 0, 1, 0, a, b, 3, 0, a, b, 3, 0]);
     }
 }
 
@@ -74,7 +76,7 @@ fn one(run: &mut Run, rng: &mut Rng, case: usize) {
 
 fn small(rng: &mut Rng, flavour: Flavour) -> Vec<u8> {
     let size = rng.below(96);
-    save(Plan { flavour, size, longest_text: 12 }, rng)
+    save_of_a_build(Plan { flavour, size, longest_text: 12 }, rng)
 }
 
 fn narrowed(mut bytes: Vec<u8>) -> Vec<u8> {
@@ -108,7 +110,7 @@ fn after_a_save(run: &mut Run, rng: &mut Rng, flavour: Flavour) {
 /// Some thousand bytes, whole, damaged, and cut somewhere.
 fn middling(run: &mut Run, rng: &mut Rng, flavour: Flavour) {
     let size = rng.below(2000);
-    let mut bytes = narrowed(save(Plan { flavour, size, longest_text: 400 }, rng));
+    let mut bytes = narrowed(save_of_a_build(Plan { flavour, size, longest_text: 400 }, rng));
     one_save(run, &bytes);
     flip(rng, &mut bytes);
     bytes.truncate(bytes.len() - rng.below(bytes.len().min(8) + 1));
@@ -124,6 +126,12 @@ pub fn one_save(run: &mut Run, bytes: &[u8]) {
         }
     }
     run.check(&Kept::new(bytes));
+}
+
+/// With just enough room.
+pub fn one_dump(run: &mut Run, bytes: &[u8]) {
+    let dump = Whole::new(Form::Dump, bytes, 0);
+    run.check(&dump.with_room(dump.need()));
 }
 
 fn rooms(need: usize) -> impl Iterator<Item = usize> {
