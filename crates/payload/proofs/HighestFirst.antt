@@ -1,32 +1,27 @@
--- What the loop of `spelled` asks: one byte more, the highest first. Assumes nothing.
+-- What a loop asks that builds a number: one byte more, the highest first. Assumes nothing.
 use Prim.Native.Nat.{ℕ, suc, _+_, _-_, _*_, _≤_, _<_}
 use native.Mathlib.Omega.{arith}
 use mathlib.Core.Path.{_≡_}
 use mathlib.Core.List.{List}
-use lib.ListN.{length, take, drop, getD, length-drop}
+use lib.ListN.{length, take, drop, getD}
 use lib.Seq.{drop-cons}
 use Rattle.form.specs.Numbers.{le}
 
--- the part from place k on of the w bytes at `at`
-pub upper : List ℕ → ℕ → ℕ → ℕ → ℕ
-upper s at w k = le (take (w - k) (drop (at + k) s))
+-- the number of the bytes from place i up to place e
+pub upper : List ℕ → ℕ → ℕ → ℕ
+upper s i e = le (take (e - i) (drop i s))
 
-pub upper-end : (s : List ℕ) (at w : ℕ) → upper s at w w ≡ 0
+pub upper-end : (s : List ℕ) (e : ℕ) → upper s e e ≡ 0
 unfolding upper le
-upper-end s at w = let e : w - w ≡ 0 = omega arith in rw e
+upper-end s e = let d : e - e ≡ 0 = omega arith in rw d
 
-pub upper-more : (s : List ℕ) (at w k : ℕ) → 0 < k → k ≤ w → w ≤ length (drop at s)
-    → upper s at w k * 256 + getD s (at + (k - 1)) 0 ≡ upper s at w (k - 1)
+pub upper-more : (s : List ℕ) (i j e : ℕ) → suc i ≡ j → j ≤ e → e ≤ length s → upper s j e * 256 + getD s i 0 ≡ upper s i e
 unfolding upper le
-upper-more s at w k p h l =
-    let e : w - (k - 1) ≡ suc (w - k) = omega arith in
-    let d : at + k ≡ suc (at + (k - 1)) = omega arith in
-    let i : at + (k - 1) < length s = omega (arith, length-drop at s) in
-    rw (e, d, drop-cons s (at + (k - 1)) 0 i) (omega arith)
+upper-more s i j e d h l =
+    let n : e - i ≡ suc (e - j) = omega arith in
+    let p : i < length s = omega arith in
+    rw (n, ← d, drop-cons s i 0 p) (omega arith)
 
-pub upper-all : (s : List ℕ) (at w k : ℕ) → k ≤ 0 → upper s at w k ≡ le (take w (drop at s))
+pub upper-all : (s : List ℕ) (i e at w : ℕ) → i ≡ at → e - i ≡ w → upper s i e ≡ le (take w (drop at s))
 unfolding upper
-upper-all s at w k h =
-    let e : w - k ≡ w = omega arith in
-    let d : at + k ≡ at = omega arith in
-    rw (e, d)
+upper-all s i e at w p n = rw (n, p)

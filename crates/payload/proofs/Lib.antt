@@ -2,7 +2,7 @@ pub mod LetElse
 pub mod Signed
 pub mod Rests
 pub mod HighestFirst
-pub mod Cutting
+pub mod Few
 pub mod Texts
 pub mod Unique
 pub mod Spells

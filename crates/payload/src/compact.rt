@@ -1,6 +1,6 @@
 // Compact numbers.
 ghost use mathlib.Core.Path.{_≡_};
-ghost use Prim.Native.Nat.{_-_, _^_, _≤_, _<_};
+ghost use Prim.Native.Nat.{_+_, _-_, _^_, _≤_, _<_};
 ghost use lib.ListN.{length, take, drop};
 ghost use Rattle.form.specs.Numbers.{le, negated};
 ghost use Rattle.form.specs.Readers.{at as readAt};
@@ -10,7 +10,6 @@ ghost use Rattle.payload.specs.Compact.{atMost7};
 use crate::answers::ReadString;
 use crate::answers::ReadU64;
 use crate::bits;
-use crate::numbers;
 
 // A width over seven counts as seven.
 pub(crate) fn capped(width: usize) -> usize
@@ -19,35 +18,30 @@ pub(crate) fn capped(width: usize) -> usize
     if width <= 7 { width } else { 7 }
 }
 
-// The number of the last width bytes before a place: that of the last eight, with the lower bytes cut off.
-fn last(bytes: &[u8], end: usize, width: usize) -> u64
-    requires { ⌜ (width ≤ 7) × (8 ≤ end) × (end ≤ length (now bytes)) ⌝ }
-    ensures { λ r. ⌜ r ≡ le (take width (drop (end - width) (now (bytes .entry)))) ⌝ }
+// The number of the bytes from a place up to another, built from the highest byte down.
+fn between(bytes: &[u8], at: usize, end: usize) -> u64
+    requires { ⌜ (at ≤ end) × (end ≤ at + 7) × (end - at ≤ length (drop at (now bytes))) ⌝ }
+    ensures { λ r. ⌜ r ≡ le (take (end - at) (drop at (now (bytes .entry)))) ⌝ }
 {
-    let first = end - 8;
-    let y = numbers::spelled(bytes, first, 8);
-    let k = 56 - 8 * width as u64;
-    (y >> k) / 256
+    let mut x: u64 = 0;
+    let mut i = end;
+    while at < i {
+        i -= 1;
+        x = x * 256 + bytes[i] as u64;
+    }
+    x
 }
 
-// The number of so few bytes, by the eight that end where it ends.
+// The number of so few bytes at a place.
 pub(crate) fn read_few(bytes: &[u8], at: usize, width: usize) -> ReadU64
     requires { ⌜ width ≤ 7 ⌝ }
     ensures { λ r. ⌜ u64Answer r ≡ readAt (num width) (now (bytes .entry)) at ⌝ }
 {
-    // Near the start there may not be eight.
-    if at < 8 {
-        return numbers::read_width(bytes, at, width);
-    }
-    // Past the end there are still numbers of no bytes.
-    if bytes.len() < at {
-        return numbers::read_width(bytes, at, width);
-    }
     let part = crate::read_bytes(bytes, at, width);
     let ReadString::Got(_, next) = part else {
         return ReadU64::Refused(part.refusal());
     };
-    let x = last(bytes, next, width);
+    let x = between(bytes, at, next);
     ReadU64::Got(x, next)
 }
 

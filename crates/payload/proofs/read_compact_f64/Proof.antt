@@ -5,7 +5,7 @@ use borrow.Author.Needs.{needs}
 use Rattle.form.specs.Readers.{mapped}
 use Rattle.payload.specs.Answers.{u64Answer}
 use Rattle.payload.proofs.LetElse.{gotOf, elseOf}
-use Rattle.payload.proofs.Cutting.{at-most-7, few-below}
+use Rattle.payload.proofs.Few.{at-most-7, few-below}
 use Rattle.payload.proofs.read_compact_f64.Statement.{statement}
 use Rattle.payload.proofs.read_compact_f64.Tie as tie
 

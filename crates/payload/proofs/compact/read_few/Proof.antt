@@ -2,7 +2,6 @@
 use Prim.Native.Nat.{_+_, _-_}
 use mathlib.Core.Path.{_≡_, refl, sym}
 use native.Mathlib.Omega.{arith}
-use lib.ListN.{length-drop}
 use borrow.Author.Needs.{needs}
 use Rattle.form.proofs.Places.{num-there, took}
 use Rattle.payload.specs.Answers.{textAnswer, textOf}
@@ -12,41 +11,31 @@ use Rattle.payload.proofs.compact.read_few.Statement.{statement}
 use Rattle.payload.proofs.compact.read_few.Tie as tie
 
 returns : tie.Need-returns
-returns c = c .read-width .ensures
+returns c = sym (spells-not textOf _ _ _ (elseOf textAnswer (c .before .before .before .read-bytes .ensures) (c .before .enum-told .given .1) (c .refusal .ensures) refl))
 
-returns-2 : tie.Need-returns-2
-returns-2 c = c .read-width2 .ensures
-
-returns-3 : tie.Need-returns-3
-returns-3 c = sym (spells-not textOf _ _ _ (elseOf textAnswer (c .before .before .before .read-bytes .ensures) (c .before .enum-told .given .1) (c .refusal .ensures) refl))
-
-last-requires : tie.Need-last-requires
-last-requires c κs =
-    let a = c .before .before .before .before .before .before .before .args in
+between-requires : tie.Need-between-requires
+between-requires c κs =
+    let a = c .before .before .before .before .before .args in
     let g = spells textOf _ _ _ (gotOf textAnswer (c .before .before .before .read-bytes .ensures) (c .before .part .given .1)) in
     let t = took _ _ _ (g .1) in
-    (omega arith, omega (arith, t .next), omega (arith, t .next, t .there, length-drop (a .at) (a .bytes .now)))
+    (omega (arith, t .next), omega (arith, t .next), omega (arith, t .next, t .there))
 
-returns-4 : tie.Need-returns-4
-returns-4 c =
-    let a = c .before .before .before .before .before .before .before .before .args in
+returns-2 : tie.Need-returns-2
+returns-2 c =
+    let a = c .before .before .before .before .before .before .args in
     let g = spells textOf _ _ _ (gotOf textAnswer (c .before .before .before .before .read-bytes .ensures) (c .before .before .part .given .1)) in
     let t = took _ _ _ (g .1) in
-    let e : a .at + a .width - a .width ≡ a .at = omega arith in
-    rw (num-there (a .width) (a .bytes .now) (a .at) (t .there), c .last .ensures, t .next, e)
+    let e : a .at + a .width - a .at ≡ a .width = omega arith in
+    rw (num-there (a .width) (a .bytes .now) (a .at) (t .there), c .between .ensures, t .next, e)
 
 pub read-few-spec : {M : Type 1} → statement M
 read-few-spec =
     tie.close
     (tie.spec
     (λ c κs. search needs)
+    (λ c. search needs)
+    (λ c. search needs)
+    (λ c κs. search needs)
     returns
-    (λ c κs. search needs)
-    returns-2
-    (λ c κs. search needs)
-    (λ c. search needs)
-    (λ c. search needs)
-    (λ c κs. search needs)
-    returns-3
-    last-requires
-    returns-4)
+    between-requires
+    returns-2)

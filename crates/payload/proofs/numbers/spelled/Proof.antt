@@ -12,7 +12,7 @@ use Rattle.payload.proofs.numbers.spelled.Statement.{statement}
 use Rattle.payload.proofs.numbers.spelled.Tie as tie
 
 abbrev Inv-loop : tie.InvT-loop
-Inv-loop bytes at width x₀ i₀ x i = (i ≤ width) × ((x ≡ upper bytes at width i) × (x < 256 ^ (width - i)))
+Inv-loop bytes at width x₀ i₀ x i = (i ≤ width) × ((x ≡ upper bytes (at + i) (at + width)) × (x < 256 ^ (width - i)))
 
 abbrev μ-loop : tie.MeasureT-loop
 μ-loop bytes at width x₀ i₀ x i = i
@@ -20,7 +20,7 @@ abbrev μ-loop : tie.MeasureT-loop
 loop-holds : tie.Need-loop-holds Inv-loop μ-loop
 loop-holds c =
     let e : c .args .width - c .args .width ≡ 0 = omega arith in
-    (omega arith, (sym (upper-end _ _ _), rw e (lit< tt)))
+    (omega arith, (sym (upper-end _ _), rw e (lit< tt)))
 
 mul-x : tie.Need-mul-x Inv-loop μ-loop
 mul-x c =
@@ -46,11 +46,14 @@ loop-again c =
     let a = c .before .before .before .args in
     let i = c .before .before .loop .i in
     let e : a .width - (i - 1) ≡ suc (a .width - i) = omega arith in
-    let m = upper-more (a .bytes .now) (a .at) (a .width) i (omega arith) (omega arith) (omega arith) in
+    let m = upper-more (a .bytes .now) (a .at + (i - 1)) (a .at + i) (a .at + a .width) (omega arith) (omega arith) (omega (arith, length-drop (a .at) (a .bytes .now))) in
     (omega arith, (omega arith, rw (e, pow-succ' 256) (omega (arith, c .shared-slice-known .given (a .at + (i - 1))))))
 
 returns : tie.Need-returns Inv-loop μ-loop
-returns c = c .before .loop .inv .1 .0 ∙ upper-all _ _ _ _ (c .loop-test .left)
+returns c =
+    let a = c .before .before .args in
+    let i = c .before .loop .i in
+    c .before .loop .inv .1 .0 ∙ upper-all (a .bytes .now) (a .at + i) (a .at + a .width) (a .at) (a .width) (omega arith) (omega arith)
 
 pub spelled-spec : {M : Type 1} → statement M
 spelled-spec = tie.close (tie.spec Inv-loop μ-loop loop-holds (λ c. search needs) mul-x add-x shared-slice-read-x cast-x add-x-2 (λ c. search needs) loop-again returns)
