@@ -4,6 +4,8 @@ mod put;
 
 ghost use mathlib.Core.Path.{_≡_};
 ghost use mathlib.Core.List.{_++_};
+ghost use Prim.Native.Nat.{_^_};
+ghost use lib.Dec.{ltb};
 ghost use lib.ListN.{length};
 ghost use Rattle.form.specs.Numbers.{leBytes};
 ghost use Rattle.form.specs.Writing.{outcome, Follows, fitted};
@@ -36,6 +38,20 @@ fn fit(need: usize, room: usize) -> Wrote
     }
 }
 
+// Whether two bytes hold the length of a text.
+fn is_short(len: usize) -> bool
+    ensures { λ r. ⌜ r ≡ ltb len 65536 ⌝ }
+{
+    len < 65536
+}
+
+// Whether three bytes hold the number of a lookup.
+fn is_narrow(n: u32) -> bool
+    ensures { λ r. ⌜ r ≡ ltb n (2 ^ 24) ⌝ }
+{
+    n < 0x100_0000
+}
+
 fn judge_text(bytes: &[u8], id: LexemeId, t: Text, room: usize) -> Wrote
     ensures { λ r. ⌜ wroteOutcome r ≡ outcome (writeBy room (now (bytes .entry)) (Layout.Text id t)) ⌝ }
 {
@@ -44,10 +60,10 @@ fn judge_text(bytes: &[u8], id: LexemeId, t: Text, room: usize) -> Wrote
         TextAnswer::BadPlace(start) => Wrote::BadPlace(start),
         TextAnswer::Within => {
             let len = t.len;
-            if 65535 < len {
-                return Wrote::LongString(0);
+            if is_short(len) {
+                return fit(4 + len, room);
             }
-            fit(4 + len, room)
+            Wrote::LongString(0)
         }
     }
 }
@@ -55,10 +71,17 @@ fn judge_text(bytes: &[u8], id: LexemeId, t: Text, room: usize) -> Wrote
 fn judge_lookup(n: u32, room: usize) -> Wrote
     ensures { λ r. ⌜ Judged room (Layout.Lookup n) r ⌝ }
 {
-    if 0xff_ffff < n {
-        return Wrote::WideLookup(0);
+    if is_narrow(n) {
+        return fit(5, room);
     }
-    fit(5, room)
+    Wrote::WideLookup(0)
+}
+
+// A plain id has two bytes.
+fn judge_plain(room: usize) -> Wrote
+    ensures { λ r. ⌜ Fitted 2 room r ⌝ }
+{
+    fit(2, room)
 }
 
 fn judge_id(x: u16, room: usize) -> Wrote
@@ -66,7 +89,7 @@ fn judge_id(x: u16, room: usize) -> Wrote
 {
     let id = LexemeId::new(x);
     if id.is_id() {
-        return fit(2, room);
+        return judge_plain(room);
     }
     Wrote::ReservedId(0)
 }

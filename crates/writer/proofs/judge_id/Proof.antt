@@ -16,7 +16,7 @@ returns c s =
     let x = c .before .before .before .before .args .x in
     let plain : reserved x ≡ false =
     not-true _ (sym (ap (λ i. not (reserved i)) (c .before .before .before .new .ensures)) ∙ sym (c .before .before .is-id .ensures) ∙ c .before .if1 .taken) in
-    rw plain (c .fit .ensures _ (length-bytes 2 x))
+    rw plain (c .judge-plain .ensures _ (length-bytes 2 x))
 
 returns-2 : tie.Need-returns-2
 unfolding writeBy misplacedBy reasonBy spelledBy unless outcome
