@@ -2,13 +2,23 @@
 ghost use Prim.Native.Nat.{_≤_};
 ghost use mathlib.Core.Path.{_≡_};
 ghost use lib.ListN.{length};
+ghost use Rattle.form.specs.Refusals as R;
 ghost use Rattle.form.specs.Writing.{written, leaves};
+ghost use Rattle.form.specs.Listing.{errorLine};
+ghost use Rattle.form.specs.Put.{Put};
 ghost use Rattle.normal.specs.Lines.{shown};
 use libc::STDERR_FILENO;
 use libc::STDIN_FILENO;
 use normaliser::Normalised;
 use stdio::Input;
 use text::put_error;
+
+// The line of a lookup that is too wide to be written.
+fn put_wide(out: &mut [u8], p: usize) -> usize
+    ensures { λ n. ⌜ Put (now (out .entry)) 0 (errorLine (R.WideLookup p)) (now (out .exit)) n ⌝ }
+{
+    put_error(out, 0, b"wide", p as u64)
+}
 
 // The normal form of a save at the front of out, or the line of its first refusal; its length.
 fn form(bytes: &[u8], out: &mut [u8]) -> usize
@@ -20,7 +30,7 @@ fn form(bytes: &[u8], out: &mut [u8]) -> usize
         Normalised::Written(n) => n,
         Normalised::Eof(p) => put_error(out, 0, b"eof", p as u64),
         Normalised::InvalidRgb(p) => put_error(out, 0, b"rgb", p as u64),
-        Normalised::WideLookup(p) => put_error(out, 0, b"wide", p as u64),
+        Normalised::WideLookup(p) => put_wide(out, p),
         // Neither comes: there is room for every normal form.
         Normalised::NoRoom(n) => n,
         Normalised::TooLong(n) => n,

@@ -42,15 +42,14 @@ returns-3 c =
     (omega arith) (c .before .before .put-error2 .ensures)
 
 returns-4 : tie.Need-returns-4
-unfolding errorLine refusalWord refusalValue refusalValues
 returns-4 c =
-    let told = c .before .before .before .before .before .before in
+    let told = c .before .before .before .before .before in
     let call = told .before .before .before .before in
     let start = call .before .before .before .before in
     let s = start .args .bytes .now in
     lined s (start .args .out .now) (bytes-all s (call .before .before .before .shared-slice-known .given)) (start .pre) (R.WideLookup _)
     (sym (ap normalisedOutcome (told .p3 .given .1)) ∙ call .normalise .ensures .answer) (call .normalise .ensures .output)
-    (omega arith) (c .before .before .put-error3 .ensures)
+    (omega arith) (c .before .before .put-wide .ensures)
 
 returns-5 : tie.Need-returns-5
 returns-5 c =
@@ -80,7 +79,6 @@ form-spec =
     (λ c. search needs)
     (λ c. search needs)
     (λ c κs. search needs)
-    (λ c. search needs)
     (λ c. search needs)
     (λ c κs. search needs)
     (λ c. search needs)
