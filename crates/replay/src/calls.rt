@@ -23,16 +23,10 @@ pub(crate) fn holds(numbers: &[u64; NUMBERS], bytes: &[u8], output: &[u8]) -> bo
     let before = lent(call);
     let mut answer = [before; 8];
     let mut out = [LENT; LONGEST_OUTPUT];
-    let asked = if call < 29 {
-        ask(call, bytes, at, arg, &mut answer)
-    } else if call < 33 {
-        outputs::ask(call, bytes, at, arg, &mut out, &mut answer)
-    } else if call < 49 {
-        sources::ask(call, bytes, at, arg, &mut out, &mut answer)
-    } else if call < 51 {
-        outputs::ask(call, bytes, at, arg, &mut out, &mut answer)
-    } else {
-        ask(call, bytes, at, arg, &mut answer)
+    let asked = match call {
+        29..=32 | 49..=50 => outputs::ask(call, bytes, at, arg, &mut out, &mut answer),
+        33..=48 => sources::ask(call, bytes, at, arg, &mut out, &mut answer),
+        _ => ask(call, bytes, at, arg, &mut answer),
     };
     if same_code(asked, numbers[3]) {
         if same_words(numbers, &answer) {
