@@ -1,13 +1,15 @@
 /*
- * Prints the tokens of a save, and writes its normal form and its shortest spelling; or prints where a key stands. C99 and C++ alike;
- * examples/check compiles it as both, and runs it.
+ * Prints the tokens of a save, and writes its normal form and its shortest spelling; or prints where a key stands; or lists the save's
+ * entries, or the one that holds a position. C99 and C++ alike; examples/check compiles it as both, and runs it.
  *
  *     tokens SAVE [NORMAL-FORM [SHORTEST]]
  *     tokens --key ID SAVE
+ *     tokens --contents SAVE [POSITION]
  *
  * A line for each token: its position, its kind, its value. A text stands in quotes, with the bytes that are not printable ASCII, and quotes
- * and backslashes, as \xNN. A float is its bytes in hex, the lowest first. Of a key: its position, or `none`. The exit status is 0 if all is well; 1 if the save is refused, and
- * standard error has the refusal; 2 if something cannot be read or written.
+ * and backslashes, as \xNN. A float is its bytes in hex, the lowest first. Of a key: its position, or `none`. A line START-END for each entry:
+ * where its key stands, and the place after its last byte; of a position the number of its entry, from 0, and START-END, or `none`. The exit
+ * status is 0 if all is well; 1 if the save is refused, and standard error has the refusal; 2 if something cannot be read or written.
  */
 #include <errno.h>
 #include <inttypes.h>
@@ -30,6 +32,16 @@ static const char *const KINDS[] = {"open",     "close", "equal", "u32", "u64", 
 
 static int failed(const char *what, const char *name) {
     fprintf(stderr, "tokens: %s %s: %s\n", what, name, strerror(errno));
+    return FAILED;
+}
+
+/* The status, unless what was printed could not be written. */
+static int printed(const char *what, int status) {
+    return fflush(stdout) != 0 || ferror(stdout) ? failed("cannot write", what) : status;
+}
+
+static int usage(void) {
+    fputs("tokens SAVE [NORMAL-FORM [SHORTEST]], tokens --key ID SAVE, or tokens --contents SAVE [POSITION]\n", stderr);
     return FAILED;
 }
 
@@ -164,10 +176,7 @@ static int print_tokens(const struct save *save) {
         status = code == STIVLAHEIM_ANSWERED ? print_token(save, at, answer[1], answer + 2) : refused(save, code, answer[1]);
         at = answer[0];
     }
-    if (fflush(stdout) != 0 || ferror(stdout)) {
-        return failed("cannot write", "the tokens");
-    }
-    return status;
+    return printed("the tokens", status);
 }
 
 /* ---- the save, spelled anew */
@@ -219,15 +228,7 @@ static int print_key(const struct save *save, uint16_t id) {
     } else {
         return refused(save, code, answer[1]);
     }
-    if (fflush(stdout) != 0 || ferror(stdout)) {
-        return failed("cannot write", "the position");
-    }
-    return WELL;
-}
-
-static int usage(void) {
-    fputs("tokens SAVE [NORMAL-FORM [SHORTEST]], or tokens --key ID SAVE\n", stderr);
-    return FAILED;
+    return printed("the position", WELL);
 }
 
 /* The id is decimal, or hex after 0x. */
@@ -246,9 +247,90 @@ static int find_key(const char *word, const char *name) {
     return status;
 }
 
+/* ---- the table of contents */
+
+/* The entries of a save, two numbers each: where an entry starts, and where it ends. */
+struct list {
+    uint32_t *numbers;
+    size_t len;
+};
+
+/* The first call has no list, and says how many entries there are. */
+static int fill(struct list *list, const struct save *save) {
+    uint64_t answer[STIVLAHEIM_WORDS];
+    uint32_t code = stivlaheim_contents(save->bytes, save->len, NULL, 0, answer, STIVLAHEIM_WORDS);
+    if (code == STIVLAHEIM_LIST_FULL) {
+        size_t need = 2 * (size_t)answer[1];
+        list->numbers = (uint32_t *)malloc(need * sizeof *list->numbers);
+        if (list->numbers == NULL) {
+            return failed("cannot list", save->name);
+        }
+        code = stivlaheim_contents(save->bytes, save->len, list->numbers, need, answer, STIVLAHEIM_WORDS);
+    }
+    if (code != STIVLAHEIM_ANSWERED) {
+        return refused(save, code, answer[1]);
+    }
+    list->len = 2 * (size_t)answer[0];
+    return WELL;
+}
+
+static void print_entry(const uint32_t *entry) {
+    printf("%" PRIu32 "-%" PRIu32 "\n", entry[0], entry[1]);
+}
+
+/* The same list serves for any number of positions. */
+static int print_holder(const struct save *save, const struct list *list, uint64_t position) {
+    uint64_t answer[STIVLAHEIM_WORDS];
+    uint32_t code = stivlaheim_contents_search(list->numbers, list->len, position, answer, STIVLAHEIM_WORDS);
+    if (code == STIVLAHEIM_ANSWERED) {
+        printf("%" PRIu64 " ", answer[0]);
+        print_entry(list->numbers + 2 * answer[0]);
+    } else if (code == STIVLAHEIM_NONE) {
+        puts("none");
+    } else {
+        return refused(save, code, answer[1]);
+    }
+    return printed("the entry", WELL);
+}
+
+static int print_entries(const struct list *list) {
+    for (size_t i = 0; i < list->len; i += 2) {
+        print_entry(list->numbers + i);
+    }
+    return printed("the entries", WELL);
+}
+
+/* The position is decimal; without one all entries are listed. */
+static int contents(const char *name, const char *word) {
+    uint64_t position = 0;
+    if (word != NULL) {
+        char *end = NULL;
+        errno = 0;
+        position = strtoull(word, &end, 10);
+        if (*word < '0' || *word > '9' || *end != '\0' || errno != 0) {
+            return usage();
+        }
+    }
+    struct save save = {name, NULL, 0};
+    struct list list = {NULL, 0};
+    int status = read_save(&save);
+    if (status == WELL) {
+        status = fill(&list, &save);
+    }
+    if (status == WELL) {
+        status = word == NULL ? print_entries(&list) : print_holder(&save, &list, position);
+    }
+    free(list.numbers);
+    free(save.bytes);
+    return status;
+}
+
 int main(int count, char **arguments) {
     if (count > 1 && strcmp(arguments[1], "--key") == 0) {
         return count == 4 ? find_key(arguments[2], arguments[3]) : usage();
+    }
+    if (count > 1 && strcmp(arguments[1], "--contents") == 0) {
+        return count == 3 || count == 4 ? contents(arguments[2], count == 4 ? arguments[3] : NULL) : usage();
     }
     if (count < 2 || count > 4) {
         return usage();

@@ -4,8 +4,8 @@
  *     rt staticlib capi                                            proves the library and all below it, and makes target/staticlib/libcapi.a
  *     cc -Iinclude program.c target/staticlib/libcapi.a            compiles a program with it
  *
- * examples/tokens.c is such a program: it prints a save's tokens with their texts, and writes its normal form and its
- * shortest spelling.
+ * examples/tokens.c is such a program: it prints a save's tokens with their texts, writes its normal form and its shortest spelling, and
+ * lists its contents.
  *
  * A slice is two parameters: a pointer to its first element, and the number of its elements.
  *
@@ -57,7 +57,9 @@ enum {
     STIVLAHEIM_BUFFER_TOO_SMALL = 5, /* the position */
     STIVLAHEIM_READ_FAILED = 6,      /* the position */
     STIVLAHEIM_BAD_PLACE = 7,        /* the place given */
-    STIVLAHEIM_TOO_LONG = 8,         /* the input's length */
+    STIVLAHEIM_TOO_LONG = 8,         /* the input's length; of stivlaheim_contents_write the number of entries */
+    STIVLAHEIM_LIST_FULL = 10,       /* the number of entries needed */
+    STIVLAHEIM_BAD_INDEX = 11,       /* nothing, and so 0 */
     STIVLAHEIM_LONG_STRING = 31,     /* the token's position; of a token that is written alone 0 */
     STIVLAHEIM_WIDE_LOOKUP = 32,     /* the same */
     STIVLAHEIM_RESERVED_ID = 33,     /* the same */
@@ -205,7 +207,7 @@ uint32_t stivlaheim_write(const uint8_t *bytes, size_t bytes_len, uint32_t kind,
 uint32_t stivlaheim_write_shortest(const uint8_t *bytes, size_t bytes_len, uint32_t kind, const uint64_t *words, size_t words_len,
                                    uint8_t *out, size_t out_len, uint64_t *answer, size_t answer_len);
 
-/* The longest save that the next three take, 2^31 bytes. No other call has a limit. */
+/* The longest save that the next three and stivlaheim_contents take, 2^31 bytes. No other call limits a save. */
 #define STIVLAHEIM_LIMIT UINT64_C(2147483648)
 
 /* A save in normal form. TOO_LONG over 2,147,483,648 bytes, before anything is read; then the first refusal in the order of the file: EOF,
@@ -221,6 +223,41 @@ uint32_t stivlaheim_shorten(const uint8_t *bytes, size_t bytes_len, uint8_t *out
 /* The text that the program dump prints for a save. TOO_LONG over 2,147,483,648 bytes, before anything is read; NO_ROOM with the bytes
  * needed. A token that cannot be read refuses nothing: the text says so. */
 uint32_t stivlaheim_list(const uint8_t *bytes, size_t bytes_len, uint8_t *out, size_t out_len, uint64_t *answer, size_t answer_len);
+
+/* ---- The table of contents: lists of entries
+ *
+ * An entry runs from a key to the next key, or to the save's end. A key is as of stivlaheim_find_key from the save's start on, and need not be
+ * an id. What stands before the first key is in no entry, and a key that comes again has an entry each time. A list is numbers, two an entry:
+ * where it starts, and where it ends. `list_len` counts numbers, and so is twice the number of entries. A list is in order if each start is
+ * below its end and each end is the next start; an empty one is.
+ *
+ * Two calls fill a list: the entries come to its front, word 0 is their number, and what stands after them is left as it is. An odd last number
+ * is never touched. The two others take all that is handed over for entries, so that `list_len` is to be twice their number; a list of an odd
+ * number of numbers is BAD_INDEX. A refusal leaves list and output as they are: word 0 is 0, and word 1 what the refusal returns. So does an
+ * answer list that is too short. */
+
+/* The entries of a save, in the order of the file. TOO_LONG over 2,147,483,648 bytes, before anything is read; then the first refusal in the
+ * order of the file, EOF or INVALID_RGB; then LIST_FULL with the number of entries needed. A list of as many numbers as the save has bytes
+ * always suffices; one of no numbers tells what is needed. A save of up to 32,768 entries is gone over once, one of more twice. The call needs
+ * 256 KiB of the stack, and a little more: a thread that has less is ended by the system. */
+uint32_t stivlaheim_contents(const uint8_t *bytes, size_t bytes_len, uint32_t *list, size_t list_len, uint64_t *answer, size_t answer_len);
+
+/* Which entry of a list holds a position: word 0 is its number, from 0. An entry holds its start, and not its end. NONE, with word 0 zero, if
+ * none does: before the first start and from the last end on. BAD_INDEX if the list is not in order, which is looked at first, and in all of
+ * the list: the time is that of going over it, wherever the position is. Of the list of a save the answer is that of a fresh walk over the
+ * save. */
+uint32_t stivlaheim_contents_search(const uint32_t *list, size_t list_len, uint64_t position, uint64_t *answer, size_t answer_len);
+
+/* The file that keeps a list, at the front of `out`: word 0 is the number of bytes written, and what stands after them is left as it is. It is a
+ * version byte, 1; the number of bytes that follow; and start and end of each entry: every number big-endian, by four bytes. That is five bytes,
+ * and eight an entry. BAD_INDEX if the list is not in order; then TOO_LONG with the number of entries from 536,870,912 on; then NO_ROOM with the
+ * bytes needed. */
+uint32_t stivlaheim_contents_write(const uint32_t *list, size_t list_len, uint8_t *out, size_t out_len, uint64_t *answer, size_t answer_len);
+
+/* The list that a file keeps. BAD_INDEX if it has fewer than five bytes, another version, or another count than there are bytes after it, if
+ * that is no multiple of 8, or if the entries are not in order; then LIST_FULL with the number of entries needed. A file does not say which save
+ * it is of. */
+uint32_t stivlaheim_contents_read(const uint8_t *file, size_t file_len, uint32_t *list, size_t list_len, uint64_t *answer, size_t answer_len);
 
 /* ---- The window: a source of bytes, whose state is six words that a caller keeps
  *

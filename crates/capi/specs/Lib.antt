@@ -4,6 +4,7 @@ pub mod Code
 pub mod PartReplies
 pub mod Counting
 pub mod Outputs
+pub mod Entries
 pub mod Offered
 pub mod Steps
 pub mod Sources

@@ -17,6 +17,10 @@ pub(crate) const TOO_LONG: u32 = 8;
 
 pub(crate) const NONE: u32 = 9;
 
+pub(crate) const LIST_FULL: u32 = 10;
+
+pub(crate) const BAD_INDEX: u32 = 11;
+
 pub(crate) const LONG_STRING: u32 = 31;
 
 pub(crate) const WIDE_LOOKUP: u32 = 32;

@@ -3,6 +3,7 @@
 mod bits;
 mod codes;
 pub mod counting;
+pub mod entries;
 pub mod kinds;
 mod lexer_replies;
 pub mod lexing;

@@ -37,3 +37,10 @@ pub mod Specimens
 pub mod Sentences
 pub mod ListingExample
 pub mod Unique
+pub mod Pairs
+pub mod Ordered
+pub mod InOrder
+pub mod Held
+pub mod BigEndian
+pub mod FileBack
+pub mod ContentsExamples

@@ -10,7 +10,7 @@ use lib.ListN.{length, drop, length-drop}
 use lib.Dec.{leb}
 use Rattle.form.specs.Numbers.{pick, Bytes}
 use Rattle.form.specs.Values.{Value}
-use Rattle.form.specs.Refusals.{Refusal, Eof, InvalidRgb, LongString, WideLookup, ReservedId, NoRoom, BufferTooSmall, ReadFailed, BadPlace, TooLong, tooShort, badColour, refusalAt}
+use Rattle.form.specs.Refusals.{Refusal, Eof, InvalidRgb, LongString, WideLookup, ReservedId, NoRoom, BufferTooSmall, ReadFailed, BadPlace, TooLong, ListFull, BadIndex, tooShort, badColour, refusalAt}
 use Rattle.form.specs.Readers.{Answer, found, refused}
 use Rattle.form.specs.Reading.{token}
 use Rattle.form.specs.Spelling.{reason, wide}
@@ -34,6 +34,8 @@ OfSave n (BufferTooSmall p) = ⊥
 OfSave n (ReadFailed p) = ⊥
 OfSave n (BadPlace p) = ⊥
 OfSave n (TooLong m) = ⊥
+OfSave n (ListFull m) = ⊥
+OfSave n BadIndex = ⊥
 
 refused-there : (n k p : ℕ) (s : List ℕ) (r : Refusal) → Bytes s → p + length s ≤ n → firstRefusal reason (walkF k p s) ≡ some r → OfSave n r
 unfolding firstRefusal walkF step refusalAt

@@ -18,7 +18,7 @@ use mir.Facts.{sfits-widen}
 use Rattle.form.specs.Numbers.{pick, leBytes, Bytes, negated}
 use Rattle.form.specs.Values.{Value, Open, Close, Equal, U32, U64, F32, F64, Lookup, Id, I32, I64, Truth, Quoted, Unquoted, Rgb}
 use Rattle.form.specs.Table.{Payload, number, text, colour, table, entries, after}
-use Rattle.form.specs.Refusals.{Refusal, Eof, InvalidRgb, LongString, WideLookup, ReservedId, NoRoom, BufferTooSmall, ReadFailed, BadPlace, TooLong, Fault, tooShort, badColour, refusalValue, refusalValues, refusalAt}
+use Rattle.form.specs.Refusals.{Refusal, Eof, InvalidRgb, LongString, WideLookup, ReservedId, NoRoom, BufferTooSmall, ReadFailed, BadPlace, TooLong, ListFull, BadIndex, Fault, tooShort, badColour, refusalValue, refusalValues, refusalAt}
 use Rattle.form.specs.Readers.{Answer, found, refused, _giving_}
 use Rattle.form.specs.Reading.{num, string, payload, token}
 use Rattle.form.specs.Spelling.{reason}
@@ -202,6 +202,8 @@ error-length d r h = simp length-append (omega (arith, decimal-short d (refusalV
     word-length (ReadFailed p) = omega arith
     word-length (BadPlace p) = omega arith
     word-length (TooLong n) = omega arith
+    word-length (ListFull n) = omega arith
+    word-length BadIndex = omega arith
 
 fault-length : (d p : ℕ) (f : Fault) → p < 10 ^ suc d → length (errorLine (refusalAt p f)) ≤ d + 13
 unfolding refusalAt refusalValue refusalValues

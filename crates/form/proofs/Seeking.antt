@@ -1,10 +1,10 @@
--- Seeking a key, a token at a time: what is found from a place on, at a depth. Assumes nothing.
+-- Seeking keys, a token at a time: what is found from a place on, at a depth. Assumes nothing.
 use Prim.Native.Nat.{ℕ, _+_, _-_, _<_}
 use native.Mathlib.Omega.{arith}
 use mathlib.Core.Path.{_≡_, refl, sym, ap, _∙_}
-use mathlib.Core.Bool.{Bool, true, false, not, _&&_, _||_}
+use mathlib.Core.Bool.{Bool, true, false, not, _&&_, _||_, and-true, and-comm}
 use mathlib.Core.Option.{Option, none, some}
-use mathlib.Core.List.{List}
+use mathlib.Core.List.{List, [], _∷_}
 use lib.ListN.{length, drop}
 use lib.Dec.{eqb, ltb}
 use borrow.Author.Tests.{eqb-true, ne-eqb, ltb-true, ltb-false}
@@ -16,106 +16,122 @@ use Rattle.form.specs.Readers.{Answer, found, refused, further, andThen,
 use Rattle.form.specs.Reading.{num, payload, token}
 use Rattle.form.specs.Spelling.{tag}
 use Rattle.form.specs.Saves.{Walk, done, cut, then, step}
-use Rattle.form.specs.Keys.{isOpen, isClose, isEqual, deeper, onward, ahead, holds, makesKey, isKey, keptIf, those, keysOf}
-use Rattle.form.specs.Finding.{isPlain, firstPlain, cutBy, Sought, keyAt, absent, notBefore, firstly, sought}
+use Rattle.form.specs.Keys.{isOpen, isClose, isEqual, Around, atTop, deeper, onward, ahead, holds, makesKey, isKey, keyThat, keptIf, those, keysOf}
+use Rattle.form.specs.Finding.{isPlain, firstPlain, cutBy, firstly, sought}
 use Rattle.form.proofs.Never.{never}
 use Rattle.form.proofs.Places.{at-nothing, by-id, token-then}
 use Rattle.form.proofs.Inside.{num-inside}
 use Rattle.form.proofs.Walking.{from, from-end, from-step}
-use Rattle.form.proofs.Tests.{around, after-equal, those-onward, key-near}
+use Rattle.form.proofs.Tests.{around, after-equal, Near, those-onward, key-near}
 use Rattle.form.proofs.ById.{open-after, equal-after}
 use Rattle.form.proofs.FirstKey.{first-kept}
 
--- what is found in a walk that goes on directly after an Equal or not, at depth d
-pub seeking : ℕ → Bool → ℕ → Walk → Sought
-seeking i e d w = firstly (firstPlain i (those isKey (around e d) w)) (cutBy w)
+-- in a walk that goes on directly after an Equal or not, at depth d: the keys that are wanted, and the refusal that ends it
+pub seeking : (Value → Bool) → Bool → ℕ → Walk → List (ℕ × Value) × Option Refusal
+seeking t e d w = (those (keyThat t) (around e d) w, cutBy w)
 
 -- what a key asks, but for the token itself
 abbrev pub keyHere : Bool → ℕ → Walk → Bool
 keyHere e d w = eqb d 0 && makesKey e (ahead w)
 
-module _ (i : ℕ) where
-  pub seeking-start : (w : Walk) → seeking i false 0 w ≡ sought i w
-  unfolding seeking sought keysOf
+that-near : (t : Value → Bool) → Near (keyThat t)
+unfolding keyThat
+that-near t a b e v w = ap (λ (k : Bool). k && t v) (key-near a b e v w)
+
+module _ (t : Value → Bool) where
+  pub seeking-start : (w : Walk) → seeking t false 0 w ≡ (those (keyThat t) atTop w, cutBy w)
+  unfolding seeking
   seeking-start w = refl
 
-  pub seeking-done : (e : Bool) (d : ℕ) → seeking i e d done ≡ absent
-  unfolding seeking those firstPlain cutBy firstly
+  pub seeking-done : (e : Bool) (d : ℕ) → seeking t e d done ≡ ([], none)
+  unfolding seeking those cutBy
   seeking-done e d = refl
 
-  pub seeking-cut : (e : Bool) (d : ℕ) (r : Refusal) → seeking i e d (cut r) ≡ notBefore r
-  unfolding seeking those firstPlain cutBy firstly
+  pub seeking-cut : (e : Bool) (d : ℕ) (r : Refusal) → seeking t e d (cut r) ≡ ([], some r)
+  unfolding seeking those cutBy
   seeking-cut e d r = refl
 
   -- ---- after a token
 
   module _ (e : Bool) (d p n : ℕ) (v : Value) (w : Walk) where
-    after-token : seeking i e d (then p n v w) ≡ firstly (pick (isKey (around e d) v w && isPlain i v) (some p) (firstPlain i (those isKey (around (isEqual v) (deeper v d)) w))) (cutBy w)
+    after-token : {b : Bool} → keyThat t (around e d) v w ≡ b → seeking t e d (then p n v w) ≡ (keptIf b (p, v) (those (keyThat t) (around (isEqual v) (deeper v d)) w), cutBy w)
     unfolding seeking those cutBy
-    after-token =
-        ap (λ (o : Option ℕ). firstly o (cutBy w))
-        (first-kept i (isKey (around e d) v w) p v (those isKey (onward v (around e d)) w)
-        ∙ ap (λ (l : List (ℕ × Value)). pick (isKey (around e d) v w && isPlain i v) (some p) (firstPlain i l)) (those-onward isKey key-near e d v w))
+    after-token {b} f = rw (f, those-onward (keyThat t) (that-near t) e d v w)
 
-    passes : isKey (around e d) v w && isPlain i v ≡ false → seeking i e d (then p n v w) ≡ seeking i (isEqual v) (deeper v d) w
+    passes : keyThat t (around e d) v w ≡ false → seeking t e d (then p n v w) ≡ seeking t (isEqual v) (deeper v d) w
     unfolding seeking
-    passes f = after-token ∙ rw f
-
-    -- a token that is not the id
-    pub not-it : isPlain i v ≡ false → seeking i e d (then p n v w) ≡ seeking i (isEqual v) (deeper v d) w
-    not-it f = passes (go (isKey (around e d) v w))
-      where
-        go : (b : Bool) → b && isPlain i v ≡ false
-        go true = f
-        go false = refl
-
-    -- a token that is no key
-    pub no-key : isKey (around e d) v w ≡ false → seeking i e d (then p n v w) ≡ seeking i (isEqual v) (deeper v d) w
-    no-key f = passes (rw f)
-
-    pub a-key : isKey (around e d) v w ≡ true → isPlain i v ≡ true → seeking i e d (then p n v w) ≡ keyAt p
-    unfolding firstly
-    a-key f g = after-token ∙ rw (f, g)
+    passes f = after-token f
 
   -- ---- by what the token is
 
   module _ (e : Bool) (d p n : ℕ) (w : Walk) where
-    pub past-open : seeking i e d (then p n Open w) ≡ seeking i false (d + 1) w
-    unfolding isPlain kind deeper isOpen isEqual
-    past-open = not-it e d p n Open w refl
+    pub past-open : seeking t e d (then p n Open w) ≡ seeking t false (d + 1) w
+    unfolding keyThat isKey kind deeper isOpen isEqual
+    past-open = passes e d p n Open w refl
 
-    pub past-close : seeking i e d (then p n Close w) ≡ seeking i false (d - 1) w
-    unfolding isPlain kind deeper isOpen isClose isEqual
-    past-close = not-it e d p n Close w refl
+    pub past-close : seeking t e d (then p n Close w) ≡ seeking t false (d - 1) w
+    unfolding keyThat isKey kind deeper isOpen isClose isEqual
+    past-close = passes e d p n Close w refl
 
-    pub past-equal : seeking i e d (then p n Equal w) ≡ seeking i true d w
-    unfolding isPlain kind deeper isOpen isClose isEqual
-    past-equal = not-it e d p n Equal w refl
+    pub past-equal : seeking t e d (then p n Equal w) ≡ seeking t true d w
+    unfolding keyThat isKey kind deeper isOpen isClose isEqual
+    past-equal = passes e d p n Equal w refl
 
-    -- neither a container's end nor Equal nor an id
-    pub past-other : (v : Value) → 2 < kind v → kind v < 14 → seeking i e d (then p n v w) ≡ seeking i false d w
-    unfolding isPlain kind deeper isOpen isClose isEqual
-    past-other v l u =
-        not-it e d p n v w (rw (ne-eqb (kind v) 14 (λ q. omega arith)))
-        ∙ rw (ne-eqb (kind v) 0 (λ q. omega arith), ne-eqb (kind v) 1 (λ q. omega arith), ne-eqb (kind v) 2 (λ q. omega arith))
+    -- neither a container's end nor Equal
+    module _ (v : Value) (l : 2 < kind v) where
+      that-value : keyThat t (around e d) v w ≡ (keyHere e d w && t v)
+      unfolding keyThat isKey kind isOpen isClose isEqual
+      that-value =
+          rw (ne-eqb (kind v) 0 (λ q. omega arith), ne-eqb (kind v) 1 (λ q. omega arith), ne-eqb (kind v) 2 (λ q. omega arith), after-equal e)
 
-    -- another id
-    pub past-id : (j : ℕ) → eqb j i ≡ false → seeking i e d (then p n (Id j) w) ≡ seeking i false d w
-    unfolding isPlain kind tag deeper isOpen isClose isEqual
-    past-id j f = not-it e d p n (Id j) w f
+      goes-on : {b : Bool} → keyThat t (around e d) v w ≡ b → seeking t e d (then p n v w) ≡ (keptIf b (p, v) (those (keyThat t) (around false d) w), cutBy w)
+      unfolding kind deeper isOpen isClose isEqual
+      goes-on f =
+          after-token e d p n v w f
+          ∙ rw (ne-eqb (kind v) 0 (λ q. omega arith), ne-eqb (kind v) 1 (λ q. omega arith), ne-eqb (kind v) 2 (λ q. omega arith))
 
-    -- the id, by what a key asks more
-    key-id : (j : ℕ) → isKey (around e d) (Id j) w ≡ keyHere e d w
-    unfolding isKey kind isOpen isClose isEqual
-    key-id j = ap (λ (b : Bool). eqb d 0 && makesKey b (ahead w)) (after-equal e)
+      -- it is not wanted, or no key
+      pub past-value : t v && keyHere e d w ≡ false → seeking t e d (then p n v w) ≡ seeking t false d w
+      unfolding seeking
+      past-value f = goes-on (that-value ∙ and-comm (keyHere e d w) (t v) ∙ f)
 
-    pub past-no-key : (j : ℕ) → keyHere e d w ≡ false → seeking i e d (then p n (Id j) w) ≡ seeking i false d w
-    unfolding kind deeper isOpen isClose isEqual
-    past-no-key j f = no-key e d p n (Id j) w (key-id j ∙ f)
+      pub at-key : t v ≡ true → keyHere e d w ≡ true → seeking t e d (then p n v w) ≡ ((p, v) ∷ those (keyThat t) atTop w, cutBy w)
+      at-key f g = goes-on {b = true} (that-value ∙ rw (f, g)) ∙ top (eqb d 0) refl g
+        where
+          top : (b : Bool) → eqb d 0 ≡ b → b && makesKey e (ahead w) ≡ true
+              → _≡_ {A = List (ℕ × Value) × Option Refusal} (keptIf true (p, v) (those (keyThat t) (around false d) w), cutBy w) ((p, v) ∷ those (keyThat t) atTop w, cutBy w)
+          top true h q = rw (eqb-true d 0 h)
+          top false h q = never (cc)
 
-    pub at-key : (j : ℕ) → eqb j i ≡ true → keyHere e d w ≡ true → seeking i e d (then p n (Id j) w) ≡ keyAt p
-    unfolding isPlain kind tag
-    at-key j f g = a-key e d p n (Id j) w (key-id j ∙ g) f
+-- ---- every key, and those that are a plain id
+
+pub every-key : (a : Around) (w : Walk) → those (keyThat (λ _. true)) a w ≡ those isKey a w
+unfolding those keyThat
+every-key a done = refl
+every-key a (cut r) = refl
+every-key a (then p n v w) = rw (and-true (isKey a v w), every-key (onward v a) w)
+
+-- the position of the first
+abbrev pub headPosition : List (ℕ × Value) → Option ℕ
+headPosition [] = none
+headPosition ((p, v) ∷ l) = some p
+
+plain-keys : (i : ℕ) (a : Around) (w : Walk) → firstPlain i (those isKey a w) ≡ headPosition (those (keyThat (isPlain i)) a w)
+unfolding those keyThat firstPlain
+plain-keys i a done = refl
+plain-keys i a (cut r) = refl
+plain-keys i a (then p n v w) =
+    first-kept i (isKey a v w) p v (those isKey (onward v a) w) ∙ go (plain-keys i (onward v a) w) (isKey a v w && isPlain i v)
+  where
+    go : firstPlain i (those isKey (onward v a) w) ≡ headPosition (those (keyThat (isPlain i)) (onward v a) w) → (b : Bool)
+        → pick b (some p) (firstPlain i (those isKey (onward v a) w)) ≡ headPosition (keptIf b (p, v) (those (keyThat (isPlain i)) (onward v a) w))
+    go h true = refl
+    go h false = h
+
+-- what is sought is the first, or what ended the walk
+pub sought-first : (i : ℕ) (w : Walk) → sought i w ≡ firstly (headPosition (those (keyThat (isPlain i)) atTop w)) (cutBy w)
+unfolding sought keysOf
+sought-first i w = ap (λ (o : Option ℕ). firstly o (cutBy w)) (plain-keys i atTop w)
 
 -- ---- the token at a place makes a key exactly if its id does
 

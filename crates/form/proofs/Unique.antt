@@ -2,7 +2,10 @@
 -- Assumes nothing.
 use Prim.Native.Nat.{ℕ}
 use mathlib.Core.Path.{_≡_, sym, ap, _∙_}
-use mathlib.Core.List.{List}
+use mathlib.Core.List.{List, [], _∷_}
+use lib.Dec.{eqb}
+use Rattle.form.specs.Numbers.{pick}
+use Rattle.form.specs.Refusals.{Refusal, refusalNumber, refusalValue}
 use Rattle.form.specs.Writing.{Output, Outcome, Follows}
 
 -- promises that are plain equations: a position, a kind, the contents of a part
@@ -12,6 +15,11 @@ plain-one r r′ p q = p ∙ sym q
 -- promises of what an answer stands for
 pub same : {R A : Type 0} (answer : R → A) (back : A → R) → ((r : R) → back (answer r) ≡ r) → {a : A} (r r′ : R) → answer r ≡ a → answer r′ ≡ a → r ≡ r′
 same answer back h r r′ p q = sym (h r) ∙ ap back (p ∙ sym q) ∙ h r′
+
+-- the answer for a refusal, by its number and with its value: one of a list, or the one for all others
+abbrev pub byNumber : {A : Type 0} → List (ℕ × (ℕ → A)) → (ℕ → A) → Refusal → A
+byNumber [] other r = other (refusalValue r)
+byNumber ((k, f) ∷ l) other r = pick (eqb (refusalNumber r) k) (f (refusalValue r)) (byNumber l other r)
 
 -- promises of what a call that writes answers, and of the output that it leaves
 pub follows-one : {A : Type 0} (answer : A → Outcome) (back : Outcome → A) → ((r : A) → back (answer r) ≡ r) → (o : Output) (d : List ℕ)

@@ -70,6 +70,10 @@ makesKey afterEqual next = holds isEqual next || (holds isOpen next && not after
 unfoldable pub isKey : Test
 isKey a v w = not (isOpen v || isClose v || isEqual v) && eqb (a .depth) 0 && makesKey (holds isEqual (a .before)) (ahead w)
 
+-- such a token that passes
+unfoldable pub keyThat : (Value → Bool) → Test
+keyThat t a v w = isKey a v w && t v
+
 -- ---- the tokens that pass
 
 -- x in front, where the test holds

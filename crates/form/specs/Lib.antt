@@ -15,5 +15,6 @@ pub mod Put
 pub mod Fast
 pub mod Keys
 pub mod Finding
+pub mod Contents
 pub mod Ascii
 pub mod Listing

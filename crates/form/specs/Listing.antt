@@ -7,7 +7,7 @@ use lib.ListN.{length}
 use lib.Dec.{leb}
 use Rattle.form.specs.Numbers.{pick, leBytes}
 use Rattle.form.specs.Values.{Value, Open, Close, Equal, U32, U64, F32, F64, Lookup, Id, I32, I64, Truth, Quoted, Unquoted, Rgb}
-use Rattle.form.specs.Refusals.{Refusal, Eof, InvalidRgb, LongString, WideLookup, ReservedId, NoRoom, BufferTooSmall, ReadFailed, BadPlace, TooLong, refusalValue}
+use Rattle.form.specs.Refusals.{Refusal, Eof, InvalidRgb, LongString, WideLookup, ReservedId, NoRoom, BufferTooSmall, ReadFailed, BadPlace, TooLong, ListFull, BadIndex, refusalValue}
 use Rattle.form.specs.Saves.{Walk, done, cut, then, walk, LIMIT}
 use Rattle.form.specs.Writing.{Output, unwritten, fitted}
 use Rattle.form.specs.Keys.{Counts, counts}
@@ -82,6 +82,8 @@ refusalWord (BufferTooSmall p) = ""
 refusalWord (ReadFailed p) = ""
 refusalWord (BadPlace p) = ""
 refusalWord (TooLong n) = ""
+refusalWord (ListFull n) = ""
+refusalWord BadIndex = ""
 
 unfoldable pub errorLine : Refusal → List ℕ
 errorLine r = line (ascii "error") (ascii (refusalWord r) ∷ decimal (refusalValue r) ∷ [])

@@ -16,8 +16,12 @@ pub data Refusal : Type 0 where
   BufferTooSmall ReadFailed : ℕ → Refusal
   -- the place given
   BadPlace : ℕ → Refusal
-  -- the input's length
+  -- the input's length, or the number of entries
   TooLong : ℕ → Refusal
+  -- the number of entries needed
+  ListFull : ℕ → Refusal
+  -- nothing
+  BadIndex : Refusal
 
 -- its number there
 unfoldable pub refusalNumber : Refusal → ℕ
@@ -31,6 +35,8 @@ refusalNumber (BufferTooSmall p) = 5
 refusalNumber (ReadFailed p) = 6
 refusalNumber (BadPlace p) = 7
 refusalNumber (TooLong n) = 8
+refusalNumber (ListFull n) = 10
+refusalNumber BadIndex = 11
 
 -- what is returned with it
 unfoldable pub refusalValues : Refusal → List ℕ
@@ -44,6 +50,8 @@ refusalValues (BufferTooSmall p) = p ∷ []
 refusalValues (ReadFailed p) = p ∷ []
 refusalValues (BadPlace p) = p ∷ []
 refusalValues (TooLong n) = n ∷ []
+refusalValues (ListFull n) = n ∷ []
+refusalValues BadIndex = []
 
 -- the first of that, which a line shows
 unfoldable pub refusalValue : Refusal → ℕ
@@ -61,6 +69,8 @@ isEof (BufferTooSmall p) = false
 isEof (ReadFailed p) = false
 isEof (BadPlace p) = false
 isEof (TooLong n) = false
+isEof (ListFull n) = false
+isEof BadIndex = false
 
 -- what is wrong with bytes, wherever they stand: too few of them, or a colour that is none
 pub data Fault : Type 0 where

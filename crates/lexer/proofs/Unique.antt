@@ -4,11 +4,12 @@ use Prim.Native.Nat.{ℕ}
 use mathlib.Core.Path.{_≡_, refl, sym, ap, _∙_}
 use mathlib.Core.Bool.{Bool}
 use mathlib.Core.Option.{Option, none, some}
+use mathlib.Core.List.{[], _∷_}
 use lib.IntN.{ℤ}
 use Rattle.form.specs.Refusals as F
 use Rattle.form.specs.Values.{Value}
 use Rattle.form.specs.Calls.{Cursor, Call, gives, refuses}
-use Rattle.form.proofs.Unique.{same}
+use Rattle.form.proofs.Unique.{same, byNumber}
 use Rattle.payload.specs.Answers.{colourOf}
 use Rattle.payload.specs.declared.answers.LexError.{LexError}
 use Rattle.payload.specs.declared.answers.LexError.the-variants.{Eof, InvalidRgb}
@@ -60,20 +61,14 @@ lexerOf c = record { at = c .at }
 pub new-one : {c : Cursor} (r r′ : Lexer) → cursorOf r ≡ c → cursorOf r′ ≡ c → r ≡ r′
 new-one = same cursorOf lexerOf (λ r. refl)
 
+abbrev lexedAt : LexError → ℕ → Refusal
+lexedAt k p = Lexed (record { position = p; kind = k })
+
 abbrev refusalBack : F.Refusal → Refusal
-refusalBack (F.Eof p) = Lexed (record { position = p; kind = Eof })
-refusalBack (F.InvalidRgb p) = Lexed (record { position = p; kind = InvalidRgb })
-refusalBack (F.LongString p) = BadPlace p
-refusalBack (F.WideLookup p) = BadPlace p
-refusalBack (F.ReservedId p) = BadPlace p
-refusalBack (F.NoRoom n) = BadPlace n
-refusalBack (F.BufferTooSmall p) = BadPlace p
-refusalBack (F.ReadFailed p) = BadPlace p
-refusalBack (F.BadPlace p) = BadPlace p
-refusalBack (F.TooLong n) = BadPlace n
+refusalBack r = byNumber ((1, lexedAt Eof) ∷ (2, lexedAt InvalidRgb) ∷ []) BadPlace r
 
 refusal-back : (e : Refusal) → refusalBack (refusalOf e) ≡ e
-unfolding refusalOf F.refusalAt
+unfolding refusalOf F.refusalAt F.refusalNumber F.refusalValue F.refusalValues
 refusal-back (Lexed e) = go (e .position) (e .kind)
   where
     go : (p : ℕ) (k : LexError) → refusalBack (refusalOf (Lexed (record { position = p; kind = k }))) ≡ Lexed (record { position = p; kind = k })

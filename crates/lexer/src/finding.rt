@@ -1,207 +1,26 @@
-// Finding a key: a walk over the tokens, which are told by their ids.
+// Finding a key, from the cursor on.
 ghost use mathlib.Core.Path.{_≡_};
-ghost use Prim.Native.Nat.{_-_};
-ghost use mathlib.Core.Option.{none, some};
-ghost use Rattle.form.specs.Readers.{at as readAt};
-ghost use Rattle.form.specs.Reading.{rgb, token};
-ghost use Rattle.form.specs.Keys.{makesKey};
 ghost use Rattle.form.specs.Finding.{sought, staying, walkAt, finds};
 ghost use Rattle.lexer.specs.Calls.{cursorOf, findCall};
-ghost use Rattle.lexer.specs.Passing.{Past, Told, ToldAfter, aheadAt, asked};
 use crate::Lexer;
 use crate::Place;
 use crate::answers::LexFind;
+use keys::Next;
+use keys::Wanted;
 use lexeme::LexemeId;
-use lexeme::number;
-use payload::LexError;
-use payload::ReadId;
-use payload::ReadRgb;
-use payload::ReadString;
-
-// What the walk goes by, of a token, and the place after it: one end of a container, Equal, a plain id, or anything else.
-enum Passed {
-    Open(usize),
-    Close(usize),
-    Equal(usize),
-    Plain(LexemeId, usize),
-    Other(usize),
-    Refused(LexError),
-}
-
-fn fixed(bytes: &[u8], at: usize, width: usize) -> Passed
-    ensures { λ r. ⌜ Past (some width) (now (bytes .entry)) at r ⌝ }
-{
-    let part = payload::read_bytes(bytes, at, width);
-    let ReadString::Got(_, next) = part else {
-        return Passed::Refused(part.refusal());
-    };
-    Passed::Other(next)
-}
-
-fn string(bytes: &[u8], at: usize) -> Passed
-    ensures { λ r. ⌜ Past none (now (bytes .entry)) at r ⌝ }
-{
-    let text = payload::read_string(bytes, at);
-    let ReadString::Got(_, next) = text else {
-        return Passed::Refused(text.refusal());
-    };
-    Passed::Other(next)
-}
-
-// The read is compiled as a call, and gets a slice of its own, as in `token`.
-fn colour(bytes: &[u8], at: usize) -> Passed
-    ensures { λ r. ⌜ Told (readAt rgb (now (bytes .entry)) at) r ⌝ }
-{
-    let answer = payload::read_rgb(&bytes[0..], at);
-    let ReadRgb::Got(_, next) = answer else {
-        return Passed::Refused(answer.refusal());
-    };
-    Passed::Other(next)
-}
-
-// The token of an id that ends at a place. As in `skip`, no arm has two neighbouring numbers, and there is one caller: so it compiles to
-// jump tables in the caller's loop.
-fn by_id(bytes: &[u8], at: usize, id: LexemeId) -> Passed
-    ensures { λ r. ⌜ ToldAfter (id .0) (now (bytes .entry)) at r ⌝ }
-{
-    let n = id.0;
-    match n {
-        number::OPEN => Passed::Open(at),
-        number::CLOSE => Passed::Close(at),
-        number::EQUAL => Passed::Equal(at),
-        number::EMPTY_STRING => fixed(bytes, at, 0),
-        number::RGB => colour(bytes, at),
-        number::QUOTED | number::UNQUOTED | number::STR_SAV03 => string(bytes, at),
-        number::BOOL | number::LOOKUP_U8 | number::LOOKUP_U8_ALT | number::LOOKUP_U8_SAV03 => {
-            fixed(bytes, at, 1)
-        }
-        number::LOOKUP_U16 | number::LOOKUP_U16_ALT | number::LOOKUP_U16_SAV03 => fixed(
-            bytes,
-            at,
-            2,
-        ),
-        number::LOOKUP_U24 | number::LOOKUP_U24_ALT | number::LOOKUP_U24_SAV03 => fixed(
-            bytes,
-            at,
-            3,
-        ),
-        number::U32
-        | number::I32
-        | number::LOOKUP_U32
-        | number::LOOKUP_U32_ALT
-        | number::LOOKUP_U32_SAV03 => fixed(bytes, at, 4),
-        number::F32 => fixed(bytes, at, 4),
-        number::U64 | number::I64 | number::F64 => fixed(bytes, at, 8),
-        _ => {
-            if n < number::FIXED5_ZERO {
-                return Passed::Plain(id, at);
-            }
-            if n <= number::FIXED5_U56 {
-                return fixed(bytes, at, (n - number::FIXED5_ZERO) as usize);
-            }
-            if n <= number::FIXED5_I56 {
-                return fixed(bytes, at, (n - number::FIXED5_U56) as usize);
-            }
-            Passed::Plain(id, at)
-        }
-    }
-}
-
-// The token at a place.
-fn pass(bytes: &[u8], at: usize) -> Passed
-    ensures { λ r. ⌜ Told (readAt token (now (bytes .entry)) at) r ⌝ }
-{
-    let read = payload::read_id(bytes, at);
-    let ReadId::Got(id, next) = read else {
-        return Passed::Refused(read.refusal());
-    };
-    by_id(bytes, next, id)
-}
-
-// Whether the token at a place, told by its id, makes a key of the one that ends there, which is a value if it is directly after an Equal.
-fn makes_key(bytes: &[u8], at: usize, value: bool) -> bool
-    ensures { λ r. ⌜ r ≡ makesKey value (aheadAt (now (bytes .entry)) at) ⌝ }
-{
-    let read = payload::read_id(bytes, at);
-    let ReadId::Got(follower, _) = read else {
-        return false;
-    };
-    if follower.is(LexemeId::EQUAL) {
-        return true;
-    }
-    if value {
-        return false;
-    }
-    follower.is(LexemeId::OPEN)
-}
-
-// Whether the id is the one that is sought, and a key: it is a value or not, stands at a depth, and ends at a place.
-fn is_key(
-    bytes: &[u8],
-    at: usize,
-    value: bool,
-    depth: usize,
-    id: LexemeId,
-    wanted: LexemeId,
-) -> bool
-    ensures { λ r. ⌜ r ≡ asked (wanted .0) (id .0) value depth (now (bytes .entry)) at ⌝ }
-{
-    if !id.is(wanted) {
-        return false;
-    }
-    if depth != 0 {
-        return false;
-    }
-    makes_key(bytes, at, value)
-}
-
-// The depth after a Close.
-fn higher(depth: usize) -> usize
-    ensures { λ r. ⌜ r ≡ depth - 1 ⌝ }
-{
-    if depth == 0 { 0 } else { depth - 1 }
-}
 
 impl Lexer {
     // The walk from the cursor on, up to the token after the key.
     fn walk(self, bytes: &[u8], id: LexemeId) -> LexFind
         ensures { λ r. ⌜ findCall self r ≡ staying (cursorOf self) (sought (id .0) (walkAt (now (bytes .entry)) (cursorOf self))) ⌝ }
     {
-        let mut at = self.at;
-        let mut depth: usize = 0;
-        let mut equal = false;
-        while at < bytes.len() {
-            let passed = pass(bytes, at);
-            let value = equal;
-            equal = false;
-            match passed {
-                Passed::Open(next) => {
-                    depth += 1;
-                    at = next;
-                }
-                Passed::Close(next) => {
-                    depth = higher(depth);
-                    at = next;
-                }
-                Passed::Equal(next) => {
-                    equal = true;
-                    at = next;
-                }
-                Passed::Plain(found, next) => {
-                    if is_key(bytes, next, value, depth, found, id) {
-                        return LexFind::Found(self.moved(at).position());
-                    }
-                    at = next;
-                }
-                Passed::Other(next) => {
-                    at = next;
-                }
-                Passed::Refused(e) => {
-                    return LexFind::Refused(self.moved(at).located(e));
-                }
-            }
+        let wanted = Wanted::Plain(id);
+        let next = keys::next_key(bytes, self.at, wanted);
+        match next {
+            Next::Key(at, _) => LexFind::Found(self.moved(at).position()),
+            Next::End => LexFind::Absent,
+            Next::Refused(e, at) => LexFind::Refused(self.moved(at).located(e)),
         }
-        LexFind::Absent
     }
 
     // The position of the first key that is a plain id, from the cursor on. Nothing is moved.

@@ -1,12 +1,12 @@
 -- Any two results that the promise of `list` allows are equal, and so are the outputs. Assumes nothing.
 use Prim.Native.Nat.{ℕ}
 use mathlib.Core.Path.{_≡_, refl}
-use mathlib.Core.List.{List}
+use mathlib.Core.List.{List, [], _∷_}
 use lib.ListN.{length}
-use Rattle.form.specs.Refusals as R
+use Rattle.form.specs.Refusals.{refusalNumber, refusalValue, refusalValues}
 use Rattle.form.specs.Writing.{Outcome, wrote, declined, Follows}
 use Rattle.form.specs.Listing.{list}
-use Rattle.form.proofs.Unique.{follows-one}
+use Rattle.form.proofs.Unique.{byNumber, follows-one}
 use Rattle.listing.specs.Answers.{listedOutcome}
 use Rattle.listing.specs.declared.Listed.{Listed}
 use Rattle.listing.specs.declared.Listed.the-variants.{Written, NoRoom, TooLong}
@@ -14,18 +14,10 @@ use Rattle.listing.specs.declared.Listed.the-variants.{Written, NoRoom, 
 -- `list` answers no other refusal
 abbrev listedBack : Outcome → Listed
 listedBack (wrote n) = Written n
-listedBack (declined (R.Eof p)) = TooLong p
-listedBack (declined (R.InvalidRgb p)) = TooLong p
-listedBack (declined (R.LongString p)) = TooLong p
-listedBack (declined (R.WideLookup p)) = TooLong p
-listedBack (declined (R.ReservedId p)) = TooLong p
-listedBack (declined (R.NoRoom n)) = NoRoom n
-listedBack (declined (R.BufferTooSmall p)) = TooLong p
-listedBack (declined (R.ReadFailed p)) = TooLong p
-listedBack (declined (R.BadPlace p)) = TooLong p
-listedBack (declined (R.TooLong n)) = TooLong n
+listedBack (declined r) = byNumber ((4, NoRoom) ∷ []) TooLong r
 
 listed-back : (r : Listed) → listedBack (listedOutcome r) ≡ r
+unfolding refusalNumber refusalValue refusalValues
 listed-back (Written n) = refl
 listed-back (NoRoom n) = refl
 listed-back (TooLong n) = refl

@@ -6,7 +6,7 @@ use mathlib.Core.Option.{Option, none, some}
 use mathlib.Core.List.{List}
 use lib.ListN.{length}
 use Rattle.form.specs.Numbers.{Bytes, MAX}
-use Rattle.form.specs.Refusals.{Refusal, Eof, InvalidRgb, LongString, WideLookup, ReservedId, NoRoom, BufferTooSmall, ReadFailed, BadPlace, TooLong, refusalValue, refusalValues}
+use Rattle.form.specs.Refusals.{Refusal, Eof, InvalidRgb, LongString, WideLookup, ReservedId, NoRoom, BufferTooSmall, ReadFailed, BadPlace, TooLong, ListFull, BadIndex, refusalValue, refusalValues}
 use Rattle.form.specs.Spelling.{reason}
 use Rattle.form.specs.Saves.{walk, normal}
 use Rattle.form.specs.Writing.{Output, written, unwritten, wrote, declined, outcome, leaves, firstRefusal, unless, normalise}
@@ -32,6 +32,8 @@ line-short n h (BufferTooSmall p) o = absurd o
 line-short n h (ReadFailed p) o = absurd o
 line-short n h (BadPlace p) o = absurd o
 line-short n h (TooLong m) o = absurd o
+line-short n h (ListFull m) o = absurd o
+line-short n h BadIndex o = absurd o
 
 module _ (s d : List ℕ) (b : Bytes s) (h : (length s ≤ 8192) × (40960 ≤ length d)) where
   whole : normalise (length d) s ≡ unbounded normalStyle s

@@ -1,11 +1,11 @@
 -- Any two results that a promise allows are equal, and so are the outputs. Assumes nothing.
 use mathlib.Core.Path.{_≡_, refl}
-use mathlib.Core.List.{List}
+use mathlib.Core.List.{List, [], _∷_}
 use Prim.Native.Nat.{ℕ}
 use lib.ListN.{length}
-use Rattle.form.specs.Refusals as R
+use Rattle.form.specs.Refusals.{refusalNumber, refusalValue, refusalValues}
 use Rattle.form.specs.Writing.{Outcome, wrote, declined, Follows, normalise, shorten}
-use Rattle.form.proofs.Unique.{follows-one}
+use Rattle.form.proofs.Unique.{byNumber, follows-one}
 use Rattle.normaliser.specs.declared.Normalised.{Normalised}
 use Rattle.normaliser.specs.declared.Normalised.the-variants.{Written, Eof, InvalidRgb, WideLookup, NoRoom, TooLong}
 use Rattle.normaliser.specs.declared.shortening.Shortened.{Shortened}
@@ -15,18 +15,10 @@ use Rattle.normaliser.specs.Answers.{normalisedOutcome, shortenedOutcome
 -- the normaliser answers no other refusal
 abbrev normalisedBack : Outcome → Normalised
 normalisedBack (wrote n) = Written n
-normalisedBack (declined (R.Eof p)) = Eof p
-normalisedBack (declined (R.InvalidRgb p)) = InvalidRgb p
-normalisedBack (declined (R.LongString p)) = TooLong p
-normalisedBack (declined (R.WideLookup p)) = WideLookup p
-normalisedBack (declined (R.ReservedId p)) = TooLong p
-normalisedBack (declined (R.NoRoom n)) = NoRoom n
-normalisedBack (declined (R.BufferTooSmall p)) = TooLong p
-normalisedBack (declined (R.ReadFailed p)) = TooLong p
-normalisedBack (declined (R.BadPlace p)) = TooLong p
-normalisedBack (declined (R.TooLong n)) = TooLong n
+normalisedBack (declined r) = byNumber ((1, Eof) ∷ (2, InvalidRgb) ∷ (32, WideLookup) ∷ (4, NoRoom) ∷ []) TooLong r
 
 normalised-back : (r : Normalised) → normalisedBack (normalisedOutcome r) ≡ r
+unfolding refusalNumber refusalValue refusalValues
 normalised-back (Written n) = refl
 normalised-back (Eof p) = refl
 normalised-back (InvalidRgb p) = refl
@@ -41,18 +33,10 @@ normalise-one s d = follows-one normalisedOutcome normalisedBack normalised-back
 -- and so it is where a save is shortened
 abbrev shortenedBack : Outcome → Shortened
 shortenedBack (wrote n) = S.Written n
-shortenedBack (declined (R.Eof p)) = S.Eof p
-shortenedBack (declined (R.InvalidRgb p)) = S.InvalidRgb p
-shortenedBack (declined (R.LongString p)) = S.TooLong p
-shortenedBack (declined (R.WideLookup p)) = S.TooLong p
-shortenedBack (declined (R.ReservedId p)) = S.TooLong p
-shortenedBack (declined (R.NoRoom n)) = S.NoRoom n
-shortenedBack (declined (R.BufferTooSmall p)) = S.TooLong p
-shortenedBack (declined (R.ReadFailed p)) = S.TooLong p
-shortenedBack (declined (R.BadPlace p)) = S.TooLong p
-shortenedBack (declined (R.TooLong n)) = S.TooLong n
+shortenedBack (declined r) = byNumber ((1, S.Eof) ∷ (2, S.InvalidRgb) ∷ (4, S.NoRoom) ∷ []) S.TooLong r
 
 shortened-back : (r : Shortened) → shortenedBack (shortenedOutcome r) ≡ r
+unfolding refusalNumber refusalValue refusalValues
 shortened-back (S.Written n) = refl
 shortened-back (S.Eof p) = refl
 shortened-back (S.InvalidRgb p) = refl

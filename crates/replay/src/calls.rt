@@ -1,5 +1,6 @@
 // The calls by their numbers, and whether one answers as a line says.
 use crate::line::NUMBERS;
+use crate::lists;
 use crate::outputs;
 use crate::outputs::LENT;
 use crate::outputs::LONGEST_OUTPUT;
@@ -24,8 +25,9 @@ pub(crate) fn holds(numbers: &[u64; NUMBERS], bytes: &[u8], output: &[u8]) -> bo
     let mut answer = [before; 8];
     let mut out = [LENT; LONGEST_OUTPUT];
     let asked = match call {
-        29..=32 | 49..=50 => outputs::ask(call, bytes, at, arg, &mut out, &mut answer),
+        29..=32 | 49..=50 | 54 => outputs::ask(call, bytes, at, arg, &mut out, &mut answer),
         33..=48 => sources::ask(call, bytes, at, arg, &mut out, &mut answer),
+        52 | 55 => lists::ask(call, bytes, at, &mut out, &mut answer),
         _ => ask(call, bytes, at, arg, &mut answer),
     };
     if same_code(asked, numbers[3]) {
@@ -46,7 +48,7 @@ fn same_code(asked: Asked, code: u64) -> bool {
 // What the words are before the call, so that one that is left alone shows. The calls on an id and those that make a state are lent none.
 fn lent(call: u64) -> u64 {
     match call {
-        3..=46 | 49..=51 => u64::MAX,
+        3..=46 | 49..=55 => u64::MAX,
         _ => 0,
     }
 }
@@ -74,6 +76,7 @@ fn ask(call: u64, bytes: &[u8], at: usize, arg: usize, answer: &mut [u64]) -> As
         27 => skip_value(bytes, at, arg, answer),
         28 => Asked::Code(lexing::stivlaheim_skip_container(bytes, at, answer)),
         51 => find_key(bytes, at, arg, answer),
+        53 => lists::search(bytes, at as u64, answer),
         _ => Asked::Nothing,
     }
 }

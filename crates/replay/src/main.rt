@@ -2,6 +2,7 @@
 // whose answer differs or that cannot be read, how many answers there were of each group of calls, and how many in all.
 mod calls;
 mod line;
+mod lists;
 mod outputs;
 mod sources;
 mod tally;

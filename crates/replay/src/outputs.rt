@@ -1,5 +1,6 @@
 // The calls that are lent bytes as well, by their numbers, and what they leave there.
 use crate::calls::Asked;
+use crate::lists;
 use capi::lexing;
 use capi::stepping;
 use capi::writing;
@@ -33,6 +34,7 @@ fn ask_within(call: u64, bytes: &[u8], arg: usize, out: &mut [u8], answer: &mut 
         32 => next_token_fast(bytes, out, answer),
         49 => write(bytes, arg, out, answer, true),
         50 => Asked::Code(writing::stivlaheim_shorten(bytes, out, answer)),
+        54 => lists::write(bytes, out, answer),
         _ => Asked::Nothing,
     }
 }
@@ -69,6 +71,13 @@ pub(crate) fn word(bytes: &[u8], at: usize) -> u64 {
     let mut answer = [0u64; 8];
     lexing::stivlaheim_read_u64(bytes, at, &mut answer);
     answer[1]
+}
+
+// A number of four bytes, lowest byte first.
+pub(crate) fn number(bytes: &[u8], at: usize) -> u32 {
+    let mut answer = [0u64; 8];
+    lexing::stivlaheim_read_u32(bytes, at, &mut answer);
+    (answer[1] % 0x1_0000_0000) as u32
 }
 
 // The held bytes stand before the window.

@@ -3,7 +3,6 @@
 use crate::calls::Asked;
 use crate::outputs;
 use crate::outputs::LENT;
-use capi::lexing;
 use capi::source_reads;
 use capi::sources;
 
@@ -137,47 +136,41 @@ fn words(rest: &[u8]) -> [u64; 6] {
     ]
 }
 
-// So many of the entries; all where there are fewer.
-fn first(entries: &[u32], count: usize) -> &[u32] {
-    if count <= entries.len() {
-        return &entries[..count];
+// So many of the numbers; all where there are fewer.
+pub(crate) fn first(numbers: &[u32], count: usize) -> &[u32] {
+    if count <= numbers.len() {
+        return &numbers[..count];
     }
-    entries
+    numbers
 }
 
 // As many as there can be; those after the last of the schedule are bytes of the supply, or none.
 fn entries(rest: &[u8]) -> [u32; 8] {
     [
-        entry(rest, 49),
-        entry(rest, 53),
-        entry(rest, 57),
-        entry(rest, 61),
-        entry(rest, 65),
-        entry(rest, 69),
-        entry(rest, 73),
-        entry(rest, 77),
+        outputs::number(rest, 49),
+        outputs::number(rest, 53),
+        outputs::number(rest, 57),
+        outputs::number(rest, 61),
+        outputs::number(rest, 65),
+        outputs::number(rest, 69),
+        outputs::number(rest, 73),
+        outputs::number(rest, 77),
     ]
 }
 
-fn entry(rest: &[u8], at: usize) -> u32 {
-    let mut answer = [0u64; 8];
-    lexing::stivlaheim_read_u32(rest, at, &mut answer);
-    (answer[1] % 0x1_0000_0000) as u32
-}
-
-// The words behind the buffer; the bytes after them are as they were.
-fn put(state: &[u64; 6], room: usize, out: &mut [u8]) {
-    let mut i = room;
+// The words from a place on; the bytes after them are as they were.
+pub(crate) fn put(words: &[u64], place: usize, out: &mut [u8]) {
+    let mut i = place;
     while i < out.len() {
-        out[i] = byte(state, i - room);
+        out[i] = byte(words, i - place);
         i += 1;
     }
 }
 
-fn byte(state: &[u64; 6], i: usize) -> u8 {
+fn byte(words: &[u64], i: usize) -> u8 {
     let place = i / 8;
-    if place < 6 {
-        return ((state[place] >> (i % 8 * 8)) % 256) as u8;
+    if place < words.len() {
+        return ((words[place] >> (i % 8 * 8)) % 256) as u8;
     }
     LENT
 }

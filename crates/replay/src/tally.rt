@@ -14,6 +14,7 @@ pub struct Tally {
     pub steps: u64,
     pub sources: u64,
     pub finds: u64,
+    pub contents: u64,
     pub unreadable: u64,
     pub answers: u64,
     pub different: u64,
@@ -33,6 +34,7 @@ impl Tally {
             steps: 0,
             sources: 0,
             finds: 0,
+            contents: 0,
             unreadable: 0,
             answers: 0,
             different: 0,
@@ -72,6 +74,7 @@ impl Tally {
             33..=48 => t.sources = more(t.sources),
             49..=50 => t.writes = more(t.writes),
             51 => t.finds = more(t.finds),
+            52..=55 => t.contents = more(t.contents),
             _ => t.unreadable = more(t.unreadable),
         }
         t
@@ -88,6 +91,7 @@ impl Tally {
         print(b", steps ", self.steps);
         print(b", sources ", self.sources);
         print(b", finds ", self.finds);
+        print(b", contents ", self.contents);
         print(b", unreadable ", self.unreadable);
         print(b"\n", self.answers);
         print(b" answers replayed, ", self.different);

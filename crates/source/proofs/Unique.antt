@@ -3,11 +3,11 @@
 use mathlib.Core.Path.{_≡_, refl, sym, ap, _∙_}
 use mathlib.Core.Bool.{Bool}
 use mathlib.Core.Option.{Option, none, some}
-use mathlib.Core.List.{List}
+use mathlib.Core.List.{List, [], _∷_}
 use Prim.Native.Nat.{ℕ}
 use Rattle.form.specs.Refusals as F
 use Rattle.form.specs.Values.{Value}
-use Rattle.form.proofs.Unique.{same}
+use Rattle.form.proofs.Unique.{same, byNumber}
 use Rattle.payload.specs.declared.answers.Text.{Text}
 use Rattle.payload.specs.Answers.{colourOf}
 use Rattle.payload.proofs.Unique.{colour-one}
@@ -39,18 +39,10 @@ use Rattle.source.specs.Answers.{refusalOf, ensuredAnswer, refilledAnswe
 -- ---- refusals; the code has no LongString, WideLookup, ReservedId, NoRoom and TooLong
 
 abbrev errorOf : F.Refusal → ParserError
-errorOf (F.Eof p) = Eof p
-errorOf (F.InvalidRgb p) = InvalidRgb p
-errorOf (F.LongString p) = Eof p
-errorOf (F.WideLookup p) = Eof p
-errorOf (F.ReservedId p) = Eof p
-errorOf (F.NoRoom n) = Eof n
-errorOf (F.BufferTooSmall p) = BufferTooSmall p
-errorOf (F.ReadFailed p) = ReadFailed p
-errorOf (F.BadPlace p) = BadPlace p
-errorOf (F.TooLong n) = Eof n
+errorOf r = byNumber ((2, InvalidRgb) ∷ (5, BufferTooSmall) ∷ (6, ReadFailed) ∷ (7, BadPlace) ∷ []) Eof r
 
 error-back : (e : ParserError) → errorOf (refusalOf e) ≡ e
+unfolding F.refusalNumber F.refusalValue F.refusalValues
 error-back (Eof p) = refl
 error-back (InvalidRgb p) = refl
 error-back (BufferTooSmall p) = refl

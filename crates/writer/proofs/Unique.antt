@@ -1,11 +1,11 @@
 -- Any two results that the promise allows are equal, and so are the outputs. Assumes nothing.
 use Prim.Native.Nat.{ℕ}
 use mathlib.Core.Path.{_≡_, refl}
-use mathlib.Core.List.{List}
+use mathlib.Core.List.{List, [], _∷_}
 use lib.ListN.{length}
-use Rattle.form.specs.Refusals as R
+use Rattle.form.specs.Refusals.{refusalNumber, refusalValue, refusalValues}
 use Rattle.form.specs.Writing.{Outcome, wrote, declined, Follows, fitted}
-use Rattle.form.proofs.Unique.{follows-one}
+use Rattle.form.proofs.Unique.{byNumber, follows-one}
 use Rattle.token.specs.declared.Token.{Token}
 use Rattle.writer.specs.declared.Wrote.{Wrote}
 use Rattle.writer.specs.declared.Wrote.the-variants.{Written, LongString, WideLookup, ReservedId, NoRoom, BadPlace}
@@ -15,18 +15,10 @@ use Rattle.writer.specs.Writes.{writeToken, writeShortestToken, wroteOut
 -- the writer answers no other refusal
 abbrev wroteBack : Outcome → Wrote
 wroteBack (wrote n) = Written n
-wroteBack (declined (R.Eof p)) = BadPlace p
-wroteBack (declined (R.InvalidRgb p)) = BadPlace p
-wroteBack (declined (R.LongString p)) = LongString p
-wroteBack (declined (R.WideLookup p)) = WideLookup p
-wroteBack (declined (R.ReservedId p)) = ReservedId p
-wroteBack (declined (R.NoRoom n)) = NoRoom n
-wroteBack (declined (R.BufferTooSmall p)) = BadPlace p
-wroteBack (declined (R.ReadFailed p)) = BadPlace p
-wroteBack (declined (R.BadPlace p)) = BadPlace p
-wroteBack (declined (R.TooLong n)) = BadPlace n
+wroteBack (declined r) = byNumber ((31, LongString) ∷ (32, WideLookup) ∷ (33, ReservedId) ∷ (4, NoRoom) ∷ []) BadPlace r
 
 wrote-back : (r : Wrote) → wroteBack (wroteOutcome r) ≡ r
+unfolding refusalNumber refusalValue refusalValues
 wrote-back (Written n) = refl
 wrote-back (LongString p) = refl
 wrote-back (WideLookup p) = refl

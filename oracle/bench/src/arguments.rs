@@ -6,8 +6,8 @@ use std::path::PathBuf;
 const USAGE: &str = "bench [--rounds N] [--write FILE] [--callgrind]
   --rounds N    rounds, of which each measures every row on both sides (default 15)
   --callgrind   counts instructions instead (needs valgrind)
-  --write FILE  replaces the table between <!-- times --> and <!-- /times --> in FILE, or between <!-- instructions -->
-                and <!-- /instructions -->";
+  --write FILE  replaces the table between <!-- times --> and <!-- /times --> in FILE and the line between <!-- search -->
+                and <!-- /search -->, or the table between <!-- instructions --> and <!-- /instructions -->";
 
 pub enum Mode {
     Time,

@@ -1,9 +1,11 @@
-//! How fast the port reads, skips, normalises, shortens and steps beside the original, on the same bytes, in turns.
+//! How fast the port reads, skips, normalises, shortens, steps, finds and lists beside the original, on the same bytes, in
+//! turns.
 
 mod arguments;
 mod callgrind;
 mod clock;
 mod measure;
+mod search;
 mod table;
 mod work;
 
@@ -21,17 +23,20 @@ fn main() -> ExitCode {
 }
 
 fn run(arguments: &Arguments) -> Result<(), String> {
-    let (name, table) = match arguments.mode {
+    let rounds = arguments.rounds;
+    let tables = match arguments.mode {
         Mode::Once(side, work) => {
             work::once(side, work);
             return Ok(());
         }
-        Mode::Callgrind => ("instructions", callgrind::table()?),
-        Mode::Time => ("times", table::times(&measure::all(arguments.rounds))),
+        Mode::Callgrind => vec![("instructions", callgrind::table()?)],
+        Mode::Time => vec![("times", table::times(&measure::all(rounds))), ("search", search::line(rounds))],
     };
-    print!("{table}");
-    match &arguments.write {
-        Some(file) => table::write(file, name, &table),
-        None => Ok(()),
+    for (name, table) in &tables {
+        print!("{table}");
+        if let Some(file) = &arguments.write {
+            table::write(file, name, table)?;
+        }
     }
+    Ok(())
 }

@@ -1,7 +1,7 @@
 //! Times of both sides, in turns.
 
 use crate::clock;
-use crate::work::{Side, Work, agreed, measured, output};
+use crate::work::{Lent, Side, Work, agreed, measured};
 
 /// How many seconds one time is taken for at the least.
 const SHORTEST: f64 = 0.008;
@@ -17,28 +17,28 @@ pub struct Row {
 
 pub fn all(rounds: usize) -> Vec<Row> {
     let inputs: Vec<Vec<u8>> = Work::all().map(Work::input).collect();
-    let mut out = output();
-    let mut rows: Vec<Row> = Work::all().zip(&inputs).map(|(work, bytes)| row(work, bytes, &mut out)).collect();
+    let mut lent = Lent::new();
+    let mut rows: Vec<Row> = Work::all().zip(&inputs).map(|(work, bytes)| row(work, bytes, &mut lent)).collect();
     for round in 0..rounds {
         for (row, bytes) in rows.iter_mut().zip(&inputs) {
-            one_round(row, bytes, &mut out, round);
+            one_round(row, bytes, &mut lent, round);
         }
     }
     rows
 }
 
-fn row(work: Work, bytes: &[u8], out: &mut [u8]) -> Row {
-    assert!(agreed(work, bytes, out), "{work:?}: the sides do not agree");
+fn row(work: Work, bytes: &[u8], lent: &mut Lent) -> Row {
+    assert!(agreed(work, bytes, lent), "{work:?}: the sides do not agree");
     let tokens = original::count_tokens(bytes).words[1];
     Row { work, bytes: bytes.len(), tokens, port: Vec::new(), original: Vec::new() }
 }
 
 /// The side that goes first changes from round to round.
-fn one_round(row: &mut Row, bytes: &[u8], out: &mut [u8], round: usize) {
+fn one_round(row: &mut Row, bytes: &[u8], lent: &mut Lent, round: usize) {
     let mut order = Side::ALL;
     order.rotate_left(round % 2);
     for side in order {
-        let time = seconds(side, row.work, bytes, out);
+        let time = seconds(side, row.work, bytes, lent);
         match side {
             Side::Port => row.port.push(time),
             Side::Original => row.original.push(time),
@@ -46,12 +46,17 @@ fn one_round(row: &mut Row, bytes: &[u8], out: &mut [u8], round: usize) {
     }
 }
 
-fn seconds(side: Side, work: Work, bytes: &[u8], out: &mut [u8]) -> f64 {
-    measured(side, work.task, bytes, out);
+fn seconds(side: Side, work: Work, bytes: &[u8], lent: &mut Lent) -> f64 {
+    time_of(|| measured(side, work.task, bytes, lent))
+}
+
+/// The seconds of one pass, by as many as take long enough; one more goes before them.
+pub fn time_of<T>(mut pass: impl FnMut() -> T) -> f64 {
+    pass();
     let start = clock::seconds();
     let mut passes = 0;
     loop {
-        measured(side, work.task, bytes, out);
+        pass();
         passes += 1;
         let time = clock::seconds() - start;
         if time >= SHORTEST {

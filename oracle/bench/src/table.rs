@@ -34,12 +34,16 @@ pub fn times(rows: &[Row]) -> String {
 /// Of the times of the same round.
 fn ratios(row: &Row) -> String {
     let ratios: Vec<f64> = row.port.iter().zip(&row.original).map(|(port, original)| port / original).collect();
-    let least = ratios.iter().copied().fold(f64::INFINITY, f64::min);
-    let most = ratios.iter().copied().fold(0.0, f64::max);
+    let [least, most] = ends(&ratios);
     format!("{:.2} ({least:.2} to {most:.2})", median(&ratios))
 }
 
-fn median(numbers: &[f64]) -> f64 {
+/// The least and the most.
+pub fn ends(numbers: &[f64]) -> [f64; 2] {
+    [numbers.iter().copied().fold(f64::INFINITY, f64::min), numbers.iter().copied().fold(0.0, f64::max)]
+}
+
+pub fn median(numbers: &[f64]) -> f64 {
     let mut sorted = numbers.to_vec();
     sorted.sort_by(f64::total_cmp);
     let middle = sorted.len() / 2;

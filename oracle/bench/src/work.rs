@@ -1,7 +1,7 @@
 //! What is measured.
 
 use original::FAST_WINDOW;
-use protocol::{Answer, Call, Spelling, WORDS, code};
+use protocol::{Answer, Call, Span, Spelling, WORDS, code};
 use saves::{Flavour, Plan, Rng, narrow, save};
 use std::hint::black_box;
 
@@ -30,16 +30,28 @@ pub enum Task {
     Shorten,
     Fast,
     Find,
+    Contents,
+    /// Beside the port's own count of tokens, in place of the original.
+    ContentsToCount,
 }
 
 impl Task {
-    const ALL: [Task; 6] = [Task::Read, Task::Skip, Task::Normalise, Task::Shorten, Task::Fast, Task::Find];
+    const ALL: [Task; 8] = [
+        Task::Read,
+        Task::Skip,
+        Task::Normalise,
+        Task::Shorten,
+        Task::Fast,
+        Task::Find,
+        Task::Contents,
+        Task::ContentsToCount,
+    ];
 
     /// Colours are not fast, and the last three flavours have some.
     fn flavours(self) -> &'static [Flavour] {
         match self {
-            Task::Read | Task::Skip | Task::Normalise | Task::Shorten | Task::Find => &Flavour::ALL,
             Task::Fast => &Flavour::ALL[..5],
+            _ => &Flavour::ALL,
         }
     }
 
@@ -51,6 +63,8 @@ impl Task {
             Task::Shorten => "shorten",
             Task::Fast => "fast step",
             Task::Find => "find key",
+            Task::Contents => "contents",
+            Task::ContentsToCount => "contents / the port's count",
         }
     }
 }
@@ -79,7 +93,7 @@ impl Work {
             Task::Skip => bytes.extend([4, 0]),
             Task::Normalise | Task::Shorten => narrow(&mut bytes),
             Task::Find => with_key(&mut bytes),
-            Task::Read | Task::Fast => {}
+            Task::Read | Task::Fast | Task::Contents | Task::ContentsToCount => {}
         }
         bytes
     }
@@ -98,17 +112,26 @@ fn last_key(bytes: &[u8]) -> u16 {
     u16::from_le_bytes(*key)
 }
 
-/// Room for any normal form.
-pub fn output() -> Vec<u8> {
-    vec![0; 6 * SIZE]
+/// What is lent to the sides.
+#[derive(Clone, Debug, PartialEq, Eq)]
+pub struct Lent {
+    out: Vec<u8>,
+    list: Vec<Span>,
+}
+
+impl Lent {
+    /// Room for any normal form, and for the entries of any save.
+    pub fn new() -> Lent {
+        Lent { out: vec![0; 6 * SIZE], list: vec![[0; 2]; SIZE] }
+    }
 }
 
 /// The port's answer and output and the original's are the same, and all of the input is done. What is shortened is the
-/// same once the original has written its tokens.
-pub fn agreed(work: Work, bytes: &[u8], out: &mut [u8]) -> bool {
+/// same once the original has written its tokens, and a count of tokens is the original's.
+pub fn agreed(work: Work, bytes: &[u8], lent: &mut Lent) -> bool {
     let [port, original] = Side::ALL.map(|side| {
-        let answer = measured(side, work.task, bytes, out);
-        (answer, out.to_vec())
+        let answer = measured(side, work.task, bytes, lent);
+        (answer, lent.clone())
     });
     let (Answer { code, words }, written) = &port;
     let end = bytes.len() as u64;
@@ -118,9 +141,14 @@ pub fn agreed(work: Work, bytes: &[u8], out: &mut [u8]) -> bool {
         Task::Shorten => words[0] <= end,
         Task::Fast => words[0] + (FAST_WINDOW as u64) > end,
         Task::Find => words[1] + 4 == end,
+        Task::Contents | Task::ContentsToCount => words[0] > 0,
     };
     let same = match work.task {
-        Task::Shorten => (original::normalise(&written[..words[0] as usize], out), out.to_vec()) == original,
+        Task::Shorten => {
+            let shortened = &written.out[..words[0] as usize];
+            (original::normalise(shortened, &mut lent.out), lent.clone()) == original
+        }
+        Task::ContentsToCount => original.0 == original::count_tokens(bytes),
         _ => port == original,
     };
     *code == code::ANSWERED && done && same
@@ -129,19 +157,26 @@ pub fn agreed(work: Work, bytes: &[u8], out: &mut [u8]) -> bool {
 /// Not taken apart by the compiler, and found by its name: only what runs in here is counted.
 #[unsafe(no_mangle)]
 #[inline(never)]
-pub fn stivlaheim_bench_measured(side: Side, task: Task, bytes: &[u8], out: &mut [u8]) -> Answer {
+pub fn stivlaheim_bench_measured(side: Side, task: Task, bytes: &[u8], lent: &mut Lent) -> Answer {
+    let Lent { out, list } = lent;
     match (side, task) {
-        (Side::Port, Task::Read) => port::answer(|words| port::count_tokens(bytes, words)),
+        (Side::Port, Task::Read) | (Side::Original, Task::ContentsToCount) => {
+            port::answer(|words| port::count_tokens(bytes, words))
+        }
         (Side::Port, Task::Skip) => port::answer(|words| port::lex(bytes, 0, Call::SkipContainer, words)),
         (Side::Port, Task::Normalise) => port::answer(|words| port::respell(Spelling::Normal, bytes, out, words)),
         (Side::Port, Task::Shorten) => port::answer(|words| port::respell(Spelling::Shortest, bytes, out, words)),
         (Side::Port, Task::Fast) => port_steps(bytes),
         (Side::Port, Task::Find) => port::answer(|words| port::find_key(bytes, 0, last_key(bytes), words)),
+        (Side::Port, Task::Contents | Task::ContentsToCount) => {
+            port::answer(|words| port::contents(bytes, list.as_flattened_mut(), words))
+        }
         (Side::Original, Task::Read) => original::count_tokens(bytes),
         (Side::Original, Task::Skip) => original::skip_container(bytes),
         (Side::Original, Task::Normalise | Task::Shorten) => original::normalise(bytes, out),
         (Side::Original, Task::Fast) => original::step_fast(bytes),
         (Side::Original, Task::Find) => original::find_key(bytes, 0, last_key(bytes)).expect("a place in the input"),
+        (Side::Original, Task::Contents) => original::contents(bytes, list),
     }
 }
 
@@ -159,11 +194,11 @@ fn port_steps(bytes: &[u8]) -> Answer {
     Answer::found(at, &[count])
 }
 
-pub fn measured(side: Side, task: Task, bytes: &[u8], out: &mut [u8]) -> Answer {
-    black_box(stivlaheim_bench_measured(side, task, black_box(bytes), black_box(out)))
+pub fn measured(side: Side, task: Task, bytes: &[u8], lent: &mut Lent) -> Answer {
+    black_box(stivlaheim_bench_measured(side, task, black_box(bytes), black_box(lent)))
 }
 
 pub fn once(side: Side, work: Work) {
-    let answer = measured(side, work.task, &work.input(), &mut output());
+    let answer = measured(side, work.task, &work.input(), &mut Lent::new());
     assert_eq!(answer.code, code::ANSWERED, "{work:?}");
 }

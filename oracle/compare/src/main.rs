@@ -2,6 +2,7 @@
 
 mod arguments;
 mod case;
+mod contents;
 mod dump;
 mod keys;
 mod lent;
@@ -36,9 +37,10 @@ fn main() -> ExitCode {
     }
     let mut run = Run::new();
     let mut rng = Rng::new(arguments.seed);
-    match arguments.programs {
-        Some(cases) => stages::programs(&mut run, &mut rng, cases),
-        None => calls(&mut run, &mut rng, &arguments),
+    match (arguments.programs, arguments.entries) {
+        (Some(cases), _) => stages::programs(&mut run, &mut rng, cases),
+        (None, Some(count)) => stages::many_entries(&mut run, count),
+        (None, None) => calls(&mut run, &mut rng, &arguments),
     }
     if run.finish() { ExitCode::SUCCESS } else { ExitCode::FAILURE }
 }
@@ -60,4 +62,5 @@ fn calls(run: &mut Run, rng: &mut Rng, arguments: &Arguments) {
     stages::finding(run, rng, arguments.cases / 4);
     stages::whole(run, rng, arguments.cases);
     stages::sources(run, rng, arguments.cases);
+    stages::contents(run, rng, arguments.cases / 4);
 }

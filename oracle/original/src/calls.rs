@@ -3,7 +3,7 @@
 use crate::binary::{LexError, LexemeId, Lexer, LexerError, Token};
 use crate::counted::counted;
 use crate::util::get_split;
-use protocol::{Answer, Call, Colour, code};
+use protocol::{Answer, Call, Colour, Span, code};
 use std::hint::black_box;
 use std::mem::take;
 
@@ -71,34 +71,86 @@ pub fn count_tokens(bytes: &[u8]) -> Answer {
 pub fn find_key(bytes: &[u8], at: usize, id: u16) -> Option<Answer> {
     let mut lexer = Lexer::new(bytes);
     lexer.read_bytes(at).ok()?;
-    let found = |key: usize| Some(Answer::found(at, &[key as u64]));
-    let mut depth = 0u64;
-    // Of the token before: the id's position and whether an Equal stands before it, if it is the id; whether it is Equal.
-    let mut candidate = None;
-    let mut equal = false;
+    let mut walk = Walk::default();
     loop {
         let position = lexer.position();
-        let before = candidate.take();
-        let valued = take(&mut equal);
         match lexer.next_token() {
-            Ok(Some(Token::Equal)) => {
-                if let Some((key, _)) = before {
-                    return found(key);
+            Ok(Some(token)) => {
+                if let Some(key) =
+                    walk.key_before(position, token, |token| matches!(token, Token::Id(this) if this == id))
+                {
+                    return Some(Answer::found(at, &[key as u64]));
                 }
-                equal = true;
             }
-            Ok(Some(Token::Open)) => {
-                if let Some((key, false)) = before {
-                    return found(key);
-                }
-                depth += 1;
-            }
-            Ok(Some(Token::Close)) => depth = depth.saturating_sub(1),
-            Ok(Some(Token::Id(this))) if this == id && depth == 0 => candidate = Some((position, valued)),
-            Ok(Some(_)) => {}
             Ok(None) => return Some(Answer::none(at)),
             Err(error) => return Some(refusal(error, at)),
         }
+    }
+}
+
+/// The entries of a save, as a caller of the original lists them, in one pass: each ends at the next key or at the save's
+/// end. What a refusal leaves behind stays.
+pub fn contents(bytes: &[u8], list: &mut [Span]) -> Answer {
+    let mut lexer = Lexer::new(bytes);
+    let mut walk = Walk::default();
+    let mut count = 0;
+    let mut last = None;
+    let mut put = |start: usize, end: usize| {
+        if let Some(record) = list.get_mut(count) {
+            *record = [start as u32, end as u32];
+        }
+        count += 1;
+    };
+    loop {
+        let position = lexer.position();
+        match lexer.next_token() {
+            Ok(Some(token)) => {
+                if let Some(key) = walk.key_before(position, token, |_| true)
+                    && let Some(start) = last.replace(key)
+                {
+                    put(start, key);
+                }
+            }
+            Ok(None) => break,
+            Err(error) => return refusal(error, 0),
+        }
+    }
+    if let Some(start) = last {
+        put(start, bytes.len());
+    }
+    if count > list.len() { Answer::refused(code::LIST_FULL, 0, count) } else { Answer::found(count, &[]) }
+}
+
+/// What a caller keeps from token to token to tell keys.
+#[derive(Default)]
+struct Walk {
+    depth: u64,
+    /// Of the token before, if it may be a key: its position, and whether an Equal stands before it.
+    candidate: Option<(usize, bool)>,
+    /// Whether the token before is Equal.
+    equal: bool,
+}
+
+impl Walk {
+    /// The position of the token before this one, if it is sought and this one shows that it is a key.
+    #[inline]
+    fn key_before(&mut self, position: usize, token: Token, sought: impl Fn(Token) -> bool) -> Option<usize> {
+        let before = self.candidate.take();
+        let valued = take(&mut self.equal);
+        match token {
+            Token::Equal => {
+                self.equal = true;
+                return before.map(|(key, _)| key);
+            }
+            Token::Open => {
+                self.depth += 1;
+                return before.and_then(|(key, valued)| (!valued).then_some(key));
+            }
+            Token::Close => self.depth = self.depth.saturating_sub(1),
+            token if self.depth == 0 && sought(token) => self.candidate = Some((position, valued)),
+            _ => {}
+        }
+        None
     }
 }
 

@@ -12,7 +12,7 @@ mod write;
 use shims::{Error, ReaderError, ReaderErrorKind, decode_windows1252};
 
 pub use binary::reader::fast::{FAST_WINDOW, Fast, next_token_fast, step_fast};
-pub use calls::{count_tokens, find_key, is_id, kind, lex, skip_container, split, text};
+pub use calls::{contents, count_tokens, find_key, is_id, kind, lex, skip_container, split, text};
 pub use counted::LARGEST_COUNT;
 pub use requests::answer_request;
 pub use scalar::Scalar;

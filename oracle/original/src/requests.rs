@@ -2,9 +2,12 @@
 
 use crate::{FAST_WINDOW, Window, calls, next_token_fast, write};
 use protocol::{
-    Answer, Op, Request, Source, Spelling, fast_line, find_line, kind_line, lex_line, output_line, source_line,
-    split_line,
+    Answer, Op, Request, Source, Spelling, UNTOUCHED, code, contents_line, fast_line, find_line, kind_line, lex_line,
+    output_line, source_line, split_line,
 };
+
+/// The port's longest save: the original has no limit.
+const LONGEST: usize = 1 << 31;
 
 /// Nothing where the original has no such call, or cannot stand there.
 pub fn answer_request(request: &Request) -> Option<String> {
@@ -18,10 +21,25 @@ pub fn answer_request(request: &Request) -> Option<String> {
             let count = write(&token.token()?, &mut out)?;
             Some(output_line(&Answer::found(count, &[]), &out))
         }
+        Request::Toc { capacity, bytes } => filled(*capacity, bytes),
         Request::Fast { held, window } => Some(stepped(*held, window)),
         Request::Source { source, ops } => source_lines(source, ops),
         Request::Write { spelling: Spelling::Shortest, .. } | Request::Dump { .. } | Request::Save { .. } => None,
+        Request::TocSearch { .. } | Request::TocWrite { .. } | Request::TocRead { .. } => None,
     }
+}
+
+/// A caller that is refused throws its list away.
+fn filled(capacity: usize, bytes: &[u8]) -> Option<String> {
+    if bytes.len() > LONGEST {
+        return None;
+    }
+    let mut list = vec![UNTOUCHED; capacity];
+    let answer = calls::contents(bytes, &mut list);
+    if answer.code != code::ANSWERED {
+        list.fill(UNTOUCHED);
+    }
+    Some(contents_line(&answer, &list))
 }
 
 /// Below the shortest window its own caller does not take the step.

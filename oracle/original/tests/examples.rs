@@ -8,8 +8,9 @@ const EXAMPLES: &str = include_str!("../../calls/examples");
 const DIFFERENT: [(&str, &str); 2] = [("write 99 lookup 16777216", "ok 5 410d000000"), ("write 99 id 3", "ok 2 0300")];
 
 /// What the original does not answer: it cannot stand past its input or in a state that does not fit, nor hold a text
-/// that is not there; it only fails where there is no room, and has no dump, no normal form and no shortest spelling.
-const UNANSWERED: [&str; 26] = [
+/// that is not there; it only fails where there is no room, and has no dump, no normal form and no shortest spelling. It
+/// limits no save, and keeps no table of contents.
+const UNANSWERED: [&str; 43] = [
     "lex 0102 9 read_id",
     "write 5 u32 7",
     "write 0 id 3",
@@ -35,11 +36,28 @@ const UNANSWERED: [&str; 26] = [
     "shorten 99 01280f000200",
     "shorten 0 *2147483649",
     "find 0128 3 0x2801",
+    "toc 0 *2147483649",
+    "toc_search 2-16,16-24 16",
+    "toc_search 2-16,16-24 15",
+    "toc_search 2-16,16-24 1",
+    "toc_search 2-16,16-24 24",
+    "toc_search 2-16,16-24 4294967298",
+    "toc_search 2-16,17-24 3",
+    "toc_search - 0",
+    "toc_write 21 2-16,16-24",
+    "toc_write 20 2-16,16-24",
+    "toc_write 5 -",
+    "toc_write 0 2-16,15-24",
+    "toc_read 3 010000001000000002000000100000001000000018",
+    "toc_read 1 010000001000000002000000100000001000000018",
+    "toc_read 1 010000000900000002000000100000",
+    "toc_read 0 01000000080000000200000002",
+    "toc_read 0 0100000000",
     "source state 0102030405060708 8 6 100 aabb 0 f 0 : ensure 3",
 ];
 
 /// All the others.
-const ANSWERED: usize = 46;
+const ANSWERED: usize = 52;
 
 #[test]
 fn the_original_answers_as_the_page_says() {

@@ -3,6 +3,7 @@
 //! Each function here lends the port an answer list of the caller's choosing and gives its code back, so that what the
 //! port leaves alone can be seen too; `answer` is for callers who want the eight words only.
 
+mod contents;
 mod fast;
 mod lexer;
 mod requests;
@@ -11,6 +12,7 @@ mod source;
 mod split;
 mod writer;
 
+pub use contents::{contents, contents_read, contents_search, contents_write};
 pub use fast::next_token_fast;
 pub use lexer::{count_tokens, find_key, is_id, kind, lex, text};
 pub use requests::answer_request;

@@ -1,10 +1,13 @@
 //! The port's answers to requests.
 
 use crate::source::Window;
-use crate::{answer, find_key, is_id, kind, lex, list, next_token_fast, respell, split, write};
+use crate::{
+    answer, contents, contents_read, contents_search, contents_write, find_key, is_id, kind, lex, list,
+    next_token_fast, respell, split, write,
+};
 use protocol::{
-    Answer, Got, Handed, Op, Request, Source, code, dump_line, fast_line, find_line, kind_line, lex_line, output_line,
-    source_line, split_line,
+    Answer, Got, Handed, Op, Request, Source, UNTOUCHED, code, contents_line, dump_line, fast_line, find_line,
+    kind_line, lex_line, output_line, search_line, source_line, split_line,
 };
 
 /// No answer fills more, and no output is made longer.
@@ -25,6 +28,15 @@ pub fn answer_request(request: &Request) -> String {
             let (answer, out) = lending(*room, |out, words| respell(*spelling, bytes, out, words));
             output_line(&answer, &out)
         }
+        Request::Toc { capacity, bytes } => filled(*capacity, |list, words| contents(bytes, list, words)),
+        Request::TocSearch { list, position } => {
+            search_line(&answer(|words| contents_search(list.as_flattened(), *position, words)))
+        }
+        Request::TocWrite { room, list } => {
+            let (answer, out) = lending(*room, |out, words| contents_write(list.as_flattened(), out, words));
+            output_line(&answer, &out)
+        }
+        Request::TocRead { capacity, file } => filled(*capacity, |list, words| contents_read(file, list, words)),
         Request::Fast { held, window } => {
             let mut held = *held;
             let answer = answer(|words| next_token_fast(window, &mut held, words));
@@ -38,6 +50,12 @@ fn lending(room: usize, call: impl FnOnce(&mut [u8], &mut [u64]) -> u32) -> (Ans
     let mut out = vec![0; room.min(LARGEST)];
     let answer = answer(|words| call(&mut out, words));
     (answer, out)
+}
+
+fn filled(capacity: usize, call: impl FnOnce(&mut [u32], &mut [u64]) -> u32) -> String {
+    let mut list = vec![UNTOUCHED; capacity];
+    let answer = answer(|words| call(list.as_flattened_mut(), words));
+    contents_line(&answer, &list)
 }
 
 /// Asked twice: for its length, and with room for it.

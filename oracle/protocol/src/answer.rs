@@ -13,6 +13,8 @@ pub mod code {
     pub const BAD_PLACE: u32 = 7;
     pub const TOO_LONG: u32 = 8;
     pub const NONE: u32 = 9;
+    pub const LIST_FULL: u32 = 10;
+    pub const BAD_INDEX: u32 = 11;
     pub const LONG_STRING: u32 = 31;
     pub const WIDE_LOOKUP: u32 = 32;
     pub const RESERVED_ID: u32 = 33;
@@ -42,6 +44,11 @@ impl Answer {
 
     pub fn refused(code: u32, at: usize, value: usize) -> Answer {
         Answer { code, ..Answer::found(at, &[value as u64]) }
+    }
+
+    /// A refusal that carries no number.
+    pub fn bad_index() -> Answer {
+        Answer::refused(code::BAD_INDEX, 0, 0)
     }
 
     pub fn value(&self) -> &[u64] {

@@ -3,6 +3,7 @@
 
 mod answer;
 mod call;
+mod contents;
 mod hex;
 mod request;
 mod show;
@@ -12,9 +13,12 @@ mod token;
 
 pub use answer::{Answer, WORDS, code};
 pub use call::{Call, Shape};
+pub use contents::{Span, UNTOUCHED, list_words};
 pub use hex::{hex, unhex};
 pub use request::Request;
-pub use show::{dump_line, fast_line, find_line, kind_line, lex_line, output_line, split_line};
+pub use show::{
+    contents_line, dump_line, fast_line, find_line, kind_line, lex_line, output_line, search_line, split_line,
+};
 pub use source::{Got, Numbers, Op, STATE_WORDS, Source, State, source_line};
 pub use spelling::Spelling;
 pub use token::{Colour, Handed, KINDS, Token};

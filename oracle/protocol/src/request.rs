@@ -1,12 +1,15 @@
 //! The request lines.
 
-use crate::{Call, Colour, Handed, Numbers, Op, Source, Spelling, Token, unhex};
+use crate::contents::list;
+use crate::{Call, Colour, Handed, Numbers, Op, Source, Span, Spelling, Token, unhex};
 use std::str::FromStr;
 
 /// A longer one is not understood.
 const LONGEST_BUFFER: usize = 1 << 30;
 /// More are not understood.
 const MOST_ZEROS: usize = 1 << 32;
+/// More are not understood; a list of so many is as long as the longest buffer.
+const MOST_RECORDS: usize = LONGEST_BUFFER / size_of::<Span>();
 
 #[derive(Clone, Debug, PartialEq, Eq)]
 pub enum Request {
@@ -17,6 +20,10 @@ pub enum Request {
     Write { spelling: Spelling, room: usize, token: Handed },
     Dump { bytes: Vec<u8> },
     Save { spelling: Spelling, room: usize, bytes: Vec<u8> },
+    Toc { capacity: usize, bytes: Vec<u8> },
+    TocSearch { list: Vec<Span>, position: u64 },
+    TocWrite { room: usize, list: Vec<Span> },
+    TocRead { capacity: usize, file: Vec<u8> },
     Fast { held: [u8; 8], window: Vec<u8> },
     Source { source: Source, ops: Vec<Op> },
 }
@@ -74,6 +81,14 @@ impl<'a> Words<'a> {
         bytes_or_zeros(self.word()?)
     }
 
+    fn list(&mut self) -> Option<Vec<Span>> {
+        list(self.word()?)
+    }
+
+    fn capacity(&mut self) -> Option<usize> {
+        self.number().filter(|count| *count <= MOST_RECORDS)
+    }
+
     fn array<const N: usize>(&mut self) -> Option<[u8; N]> {
         self.bytes()?.try_into().ok()
     }
@@ -83,7 +98,7 @@ impl<'a> Words<'a> {
     }
 }
 
-fn number<N: FromStr>(word: &str) -> Option<N> {
+pub(crate) fn number<N: FromStr>(word: &str) -> Option<N> {
     if word.starts_with('+') { None } else { word.parse().ok() }
 }
 
@@ -106,6 +121,10 @@ fn simple(words: &mut Words) -> Option<Request> {
         "dump" => Request::Dump { bytes: words.bytes()? },
         "normal" => save(words, Spelling::Normal)?,
         "shorten" => save(words, Spelling::Shortest)?,
+        "toc" => Request::Toc { capacity: words.capacity()?, bytes: words.bytes_or_zeros()? },
+        "toc_search" => Request::TocSearch { list: words.list()?, position: words.number()? },
+        "toc_write" => Request::TocWrite { room: words.number()?, list: words.list()? },
+        "toc_read" => Request::TocRead { capacity: words.capacity()?, file: words.bytes()? },
         "fast" => Request::Fast { held: words.array()?, window: words.bytes()? },
         _ => return None,
     })

@@ -1,6 +1,7 @@
 //! The answer lines.
 
-use crate::{Answer, Call, KINDS, Shape, code, hex};
+use crate::contents::list_words;
+use crate::{Answer, Call, KINDS, Shape, Span, code, hex};
 
 pub fn kind_line(kind: u32, is_id: bool) -> String {
     format!("{} {}", kind_name(kind.into()), if is_id { "plain" } else { "reserved" })
@@ -46,7 +47,29 @@ pub fn output_line(answer: &Answer, out: &[u8]) -> String {
     match answer.code {
         code::ANSWERED => format!("ok {count} {}", hex(part(out, 0, count))),
         code::BAD_PLACE => format!("badplace {refused}"),
+        code::BAD_INDEX => "badindex".to_string(),
         code => format!("err {} {refused}", refusal(code)),
+    }
+}
+
+/// The answer of a call that fills a list, with all records as it left them.
+pub fn contents_line(answer: &Answer, list: &[Span]) -> String {
+    let [count, refused, ..] = answer.words;
+    let list = list_words(list);
+    match answer.code {
+        code::ANSWERED => format!("ok {count} {list}"),
+        code::BAD_INDEX => format!("badindex {list}"),
+        code => format!("err {} {refused} {list}", refusal(code)),
+    }
+}
+
+/// The number of the entry that holds a position.
+pub fn search_line(answer: &Answer) -> String {
+    match answer.code {
+        code::ANSWERED => format!("ok {}", answer.words[0]),
+        code::NONE => "none".to_string(),
+        code::BAD_INDEX => "badindex".to_string(),
+        code => format!("err {}", refusal(code)),
     }
 }
 
@@ -84,6 +107,7 @@ pub(crate) fn refusal(code: u32) -> String {
         (code::BUFFER_TOO_SMALL, "small"),
         (code::READ_FAILED, "read"),
         (code::TOO_LONG, "toolong"),
+        (code::LIST_FULL, "listfull"),
     ];
     let found = names.iter().find(|(number, _)| *number == code);
     found.map_or_else(|| format!("code{code}"), |(_, name)| name.to_string())

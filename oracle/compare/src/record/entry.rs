@@ -5,7 +5,7 @@ use protocol::{Answer, hex};
 use std::fmt::{Display, Formatter, Result};
 
 /// The calls by their numbers, from 1. The replay has the same table, so that a new call goes to the end.
-pub const CALLS: [&str; 51] = [
+pub const CALLS: [&str; 55] = [
     "into_kind",
     "is_id",
     "get_split",
@@ -57,6 +57,10 @@ pub const CALLS: [&str; 51] = [
     "write_shortest",
     "shorten",
     "find_key",
+    "contents",
+    "contents_search",
+    "contents_write",
+    "contents_read",
 ];
 
 /// A question with the answer that is expected, without the end of its line.

@@ -5,11 +5,11 @@ use crate::subjects::Find;
 use saves::{Flavour, Plan, RESERVED, Rng, bad_colour, bare, flip, random_ids, save, token};
 
 /// Two keys, with a container between them that holds the second id as one; then damage.
-const KEYS: [u8; 24] = [1, 0x28, 1, 0, 3, 0, 2, 0x28, 1, 0, 4, 0, 4, 0, 2, 0x28, 2, 0x28, 1, 0, 0x0f, 0, 9, 0];
+pub const KEYS: [u8; 24] = [1, 0x28, 1, 0, 3, 0, 2, 0x28, 1, 0, 4, 0, 4, 0, 2, 0x28, 2, 0x28, 1, 0, 0x0f, 0, 9, 0];
 
 /// Two keys before their brackets. Before the second, its id is none: before another, inside a container, after Equal,
 /// and before a colour. Then damage.
-const BRACKETS: [u8; 58] = [
+pub const BRACKETS: [u8; 58] = [
     2, 0x28, 1, 0x28, 3, 0, 2, 0x28, 3, 0, 4, 0, 4, 0, 1, 0, 2, 0x28, 3, 0, 4, 0, 4, 0, 2, 0x28, 0x43, 2, 3, 0, 0x14,
     0, 1, 0, 0, 0, 0x14, 0, 2, 0, 0, 0, 0x14, 0, 3, 0, 0, 0, 4, 0, 2, 0x28, 3, 0, 0x0f, 0, 9, 0,
 ];

@@ -6,7 +6,7 @@ use std::collections::{BTreeMap, BTreeSet};
 
 /// The longest input that is recorded.
 pub const LONGEST: usize = 256;
-/// The most bytes that a recorded call is lent.
+/// The most that a recorded call is lent.
 pub const LONGEST_OUTPUT: usize = 1024;
 
 #[derive(Default)]
@@ -19,13 +19,17 @@ pub struct Sample {
 impl Sample {
     pub fn add(&mut self, case: &impl Recorded) {
         for entry in case.entries() {
-            self.put(&entry, format!("{entry}\n"));
+            self.add_entry(&entry);
         }
     }
 
-    /// With what the call leaves at the front of the `entry.at` bytes that it is lent.
+    pub fn add_entry(&mut self, entry: &Entry) {
+        self.put(entry, format!("{entry}\n"));
+    }
+
+    /// With what the call leaves at the front of what it is lent: of the `entry.at` bytes or numbers.
     pub fn add_output(&mut self, entry: &Entry, output: &[u8]) {
-        assert!(entry.at <= LONGEST_OUTPUT, "{} bytes lent", entry.at);
+        assert!(entry.at <= LONGEST_OUTPUT, "{} lent", entry.at);
         self.put(entry, format!("{entry}/{}\n", hex(output)));
     }
 

@@ -1,5 +1,7 @@
-//! All saves of few tokens: their keys, from every cursor and at every cut, and their dump.
+//! All saves of few tokens: their keys, from every cursor and at every cut, their dump, and their contents, searched at
+//! every position.
 
+use super::contents::{every_position, filled};
 use super::whole::one_dump;
 use crate::run::Run;
 use crate::subjects::Find;
@@ -39,6 +41,8 @@ fn each_from(bytes: &mut Vec<u8>, count: usize, check: &mut impl FnMut(&[u8])) {
 
 fn one(run: &mut Run, bytes: &[u8]) {
     one_dump(run, bytes);
+    filled(run, bytes);
+    every_position(run, bytes);
     for id in IDS {
         for at in 0..=bytes.len() + 1 {
             run.check(&Find::new(bytes, at, id));
@@ -53,8 +57,9 @@ fn one(run: &mut Run, bytes: &[u8]) {
 mod tests {
     use super::{IDS, each_from};
     use crate::case::Case;
+    use crate::contents::entries;
     use crate::subjects::Find;
-    use protocol::code;
+    use protocol::{Answer, code};
 
     /// A caller's loop over the original's tokens, which is measured and answers the examples, and what is expected.
     #[test]
@@ -68,6 +73,21 @@ mod tests {
                     found += usize::from(expected.code == code::ANSWERED);
                 }
             }
+        });
+        assert!(found > 1000, "{found}");
+    }
+    /// The same of the entries, in a list that has room for them.
+    #[test]
+    fn a_loop_lists_the_entries() {
+        let mut found = 0;
+        each_from(&mut Vec::new(), 0, &mut |bytes| {
+            let mut list = vec![[7, 7]; bytes.len() / 4];
+            let answer = original::contents(bytes, &mut list);
+            let expected = entries(bytes).expect("tokens that read");
+            assert_eq!(answer, Answer::found(expected.len(), &[]), "{bytes:x?}");
+            assert_eq!(list[..expected.len()], expected, "{bytes:x?}");
+            assert!(list[expected.len()..].iter().all(|record| *record == [7, 7]), "{bytes:x?}");
+            found += expected.len();
         });
         assert!(found > 1000, "{found}");
     }

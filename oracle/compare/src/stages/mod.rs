@@ -1,6 +1,7 @@
 //! What is asked, from the smallest inputs to the largest.
 
 mod boundary;
+mod contents;
 mod exhaustive;
 mod fast;
 mod few_tokens;
@@ -15,6 +16,7 @@ mod whole;
 mod writing;
 
 pub use boundary::boundary;
+pub use contents::{changed, contents, file_of, many_entries};
 pub use exhaustive::{all_ids, all_kinds, all_short_inputs, splits};
 pub use fast::fast;
 pub use few_tokens::few_tokens;

@@ -4,7 +4,7 @@ use super::sweep::plain_calls;
 use crate::case::Case;
 use crate::lent::Lend;
 use crate::run::Run;
-use crate::subjects::{Count, Fast, Find, Form, Lex, Short, Split, Text, Whole, Write};
+use crate::subjects::{Count, Fast, Fill, Find, Form, Lex, Origin, Search, Short, Split, Text, Whole, Write, Written};
 use protocol::{Call, Spelling, WORDS};
 
 pub fn short_lists(run: &mut Run) {
@@ -30,8 +30,29 @@ pub fn short_lists(run: &mut Run) {
             too_short(run, &Whole::new(form, &bytes, room));
         }
     }
+    contents(run);
     too_short(run, &Fast::new(&[9; 8], &[0x14; 16]));
     too_short(run, &Fast::new(&[9; 7], &[0x14; 2]));
+}
+
+/// A save and a file of one entry, with and without a list for it, and neither; lists in order and out of it.
+fn contents(run: &mut Run) {
+    let (save, file) = ([1, 0x28, 1, 0], [1, 0, 0, 0, 8, 0, 0, 0, 0, 0, 0, 0, 4]);
+    for bytes in [&save[..], &file, &save[..3]] {
+        for origin in Origin::ALL {
+            for numbers in [0, 1, 2, 5] {
+                too_short(run, &Fill::new(origin, bytes, numbers));
+            }
+        }
+    }
+    for list in [&[][..], &[0, 4], &[0, 0], &[0]] {
+        for room in [0, 13, 20] {
+            too_short(run, &Written::new(list, room));
+        }
+        for position in [0, 4] {
+            too_short(run, &Search::new(list, position));
+        }
+    }
 }
 
 fn too_short<C: Case + Lend>(run: &mut Run, case: &C) {

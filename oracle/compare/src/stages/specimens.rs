@@ -5,8 +5,8 @@ use crate::case::Case;
 use crate::dump::dump;
 use crate::lent::SeenLent;
 use crate::run::Run;
-use crate::subjects::{Form, Whole, Write};
-use protocol::{Request, output_line};
+use crate::subjects::{Fill, Form, Origin, Search, Whole, Write, Written};
+use protocol::{Request, output_line, search_line};
 
 /// Request and answer, one specimen a line.
 const SPECIMENS: &str = include_str!("specimens.txt");
@@ -61,7 +61,8 @@ impl Case for Specimen {
     }
 }
 
-/// The original has no call for a whole save, no shortest spelling and no dump: they are made from its tokens.
+/// The original has no call for a whole save, no shortest spelling and no dump: they are made from its tokens. A table of
+/// contents that is searched, written or read is answered in FORMAT.md's words.
 fn original_line(request: &Request) -> String {
     let line = |seen: SeenLent| output_line(&seen.seen.answer(), seen.lent());
     match request {
@@ -69,6 +70,14 @@ fn original_line(request: &Request) -> String {
             line(Write::new(*spelling, &token.bytes, token.kind, &token.words, *room).expected())
         }
         Request::Save { spelling, room, bytes } => line(Whole::new(Form::Spelled(*spelling), bytes, *room).expected()),
+        Request::TocSearch { list, position } => {
+            search_line(&Search::new(list.as_flattened(), *position).expected().answer())
+        }
+        Request::TocWrite { room, list } => line(Written::new(list.as_flattened(), *room).expected()),
+        Request::TocRead { capacity, file } => {
+            let read = Fill::new(Origin::File, file, 2 * capacity);
+            read.line(&read.expected())
+        }
         Request::Dump { bytes } => dump(bytes).trim_end().replace('\n', " | "),
         _ => original::answer_request(request).expect("the original has the call"),
     }
@@ -80,5 +89,28 @@ pub fn specimens(run: &mut Run) {
         if let Request::Lex { bytes, .. } = &specimen.request {
             every_place(run, bytes);
         }
+    }
+}
+
+#[cfg(test)]
+mod tests {
+    use super::original_line;
+    use protocol::Request;
+
+    const EXAMPLES: &str = include_str!("../../../calls/examples");
+
+    /// The protocol page's, but for the save that is too long, which the original would read.
+    #[test]
+    fn examples_of_contents_in_our_words() {
+        let lines: Vec<&str> = EXAMPLES.lines().collect();
+        let (pairs, _) = lines.as_chunks::<2>();
+        let contents = |request: &str| request.starts_with("toc") && !request.contains('*');
+        let mut asked = 0;
+        for [line, wanted] in pairs.iter().filter(|[line, _]| contents(line)) {
+            let request = Request::parse(line).unwrap_or_else(|| panic!("not understood: {line}"));
+            assert_eq!(original_line(&request), *wanted, "{line}");
+            asked += 1;
+        }
+        assert_eq!(asked, 21);
     }
 }

@@ -1,5 +1,6 @@
-//! Whole saves in both spellings and their dump, and the fast step along them.
+//! Whole saves in both spellings, their dump and their contents, and the fast step along them.
 
+use super::contents::filled;
 use crate::run::Run;
 use crate::subjects::{Fast, Form, Kept, Limit, Whole};
 use protocol::Spelling;
@@ -21,13 +22,15 @@ pub fn whole(run: &mut Run, rng: &mut Rng, cases: usize) {
     limits(run);
 }
 
-/// Each id, with some bytes after it and again; the dump also of the id before Open: at the start, after Equal, and
-/// inside a container.
+/// Each id, with some bytes after it and again; the dump and the contents also of the id before Open: at the start, after
+/// Equal, and inside a container.
 fn each_id(run: &mut Run) {
     for id in 0..=u16::MAX {
         let [a, b] = id.to_le_bytes();
         one_save(run, &[a, b, 1, 0, 4, 0, a, b, 1, 0, 3, 0, a, b, 1, 0]);
-        one_dump(run, &[a, b, 3, 0, 4, 0, 1, 0, a, b, 3, 0, a, b, 3, 0]);
+        let before_open = [a, b, 3, 0, 4, 0, 1, 0, a, b, 3, 0, a, b, 3, 0];
+        one_dump(run, &before_open);
+        filled(run, &before_open);
     }
 }
 
@@ -126,6 +129,7 @@ pub fn one_save(run: &mut Run, bytes: &[u8]) {
         }
     }
     run.check(&Kept::new(bytes));
+    filled(run, bytes);
 }
 
 /// With just enough room.

@@ -27,6 +27,8 @@ impl<'a> Fast<'a> {
 }
 
 impl Lend for Fast<'_> {
+    type Unit = u8;
+
     fn lent(&self) -> Vec<u8> {
         self.held.clone()
     }

@@ -16,6 +16,8 @@ impl Limit<'_> {
 }
 
 impl Lend for Limit<'_> {
+    type Unit = u8;
+
     fn lent(&self) -> Vec<u8> {
         Vec::new()
     }

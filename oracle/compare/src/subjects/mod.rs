@@ -1,5 +1,6 @@
 //! The questions, one module for each family of calls.
 
+mod contents;
 mod count;
 mod fast;
 mod find;
@@ -15,6 +16,7 @@ mod text;
 mod whole;
 mod write;
 
+pub use contents::{Fill, Holding, LongSave, Origin, Search, Written};
 pub use count::Count;
 pub use fast::Fast;
 pub use find::Find;

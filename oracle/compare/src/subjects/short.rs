@@ -1,4 +1,4 @@
-//! An answer list of fewer than eight words: nothing is changed, of lent bytes neither.
+//! An answer list of fewer than eight words: nothing is changed, and nothing of what else is lent.
 
 use crate::case::Case;
 use crate::lent::{Lend, SeenLent};
@@ -10,17 +10,17 @@ pub struct Short<'a, C> {
 }
 
 impl<C: Case + Lend> Case for Short<'_, C> {
-    type Seen = SeenLent;
+    type Seen = SeenLent<C::Unit>;
 
     fn name(&self) -> &'static str {
         "answer list too short"
     }
 
-    fn expected(&self) -> SeenLent {
+    fn expected(&self) -> SeenLent<C::Unit> {
         SeenLent::untouched(self.case, code::SHORT_ANSWER)
     }
 
-    fn port(&self) -> SeenLent {
+    fn port(&self) -> SeenLent<C::Unit> {
         SeenLent::of_port(self.case, self.room)
     }
 
@@ -32,7 +32,7 @@ impl<C: Case + Lend> Case for Short<'_, C> {
         format!("{} with {} words lent", self.case.request(), self.room)
     }
 
-    fn show(&self, seen: &SeenLent) -> String {
+    fn show(&self, seen: &SeenLent<C::Unit>) -> String {
         seen.raw(self.case)
     }
 }

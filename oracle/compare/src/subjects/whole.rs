@@ -77,6 +77,8 @@ impl<'a> Whole<'a> {
 }
 
 impl Lend for Whole<'_> {
+    type Unit = u8;
+
     fn lent(&self) -> Vec<u8> {
         output(self.room)
     }

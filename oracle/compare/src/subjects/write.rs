@@ -88,6 +88,8 @@ impl<'a> Write<'a> {
 }
 
 impl Lend for Write<'_> {
+    type Unit = u8;
+
     fn lent(&self) -> Vec<u8> {
         output(self.room)
     }

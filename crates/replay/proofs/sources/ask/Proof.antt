@@ -20,6 +20,7 @@ ask-spec =
     slice-aggregate-ask-within
     (λ c. search needs)
     (λ c κs. search needs)
+    (λ c. search needs)
     (λ c κs. search needs)
     (λ c. search needs)
     (λ c. search needs)

@@ -8,10 +8,10 @@ use Rattle.replay.proofs.sources.put.Statement.{statement}
 use Rattle.replay.proofs.sources.put.Tie as tie
 
 abbrev Inv-loop : tie.InvT-loop
-Inv-loop state room out₀ i₀ out i = (room ≤ i) × (length out ≡ length out₀)
+Inv-loop words place out₀ i₀ out i = (place ≤ i) × (length out ≡ length out₀)
 
 abbrev μ-loop : tie.MeasureT-loop
-μ-loop state room out₀ i₀ out i = length out₀ - i
+μ-loop words place out₀ i₀ out i = length out₀ - i
 
 loop-again : tie.Need-loop-again Inv-loop μ-loop
 loop-again c = (omega arith, simp length-set (c .before .before .loop .inv .1))

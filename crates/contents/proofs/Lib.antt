@@ -1,0 +1,12 @@
+pub mod Orders
+pub mod Numbering
+pub mod BigBytes
+pub mod Judged
+pub mod Admitted
+pub mod Stepped
+pub mod Stored
+pub mod Stores
+pub mod Lists
+pub mod Looks
+pub mod Again
+pub mod Unique

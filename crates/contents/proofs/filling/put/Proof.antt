@@ -1,0 +1,15 @@
+-- `contents::filling::put` meets its contract. Assumes nothing.
+use borrow.Author.Needs.{needs}
+use mathlib.Core.Path.{sym}
+use lib.Seq.{set-out}
+use Rattle.contents.proofs.filling.put.Statement.{statement}
+use Rattle.contents.proofs.filling.put.Tie as tie
+
+returns : tie.Need-returns
+returns c = search needs
+
+returns-2 : tie.Need-returns-2
+returns-2 c = sym (set-out _ _ _ (c .if1 .left))
+
+pub put-spec : {M : Type 1} → statement M
+put-spec = tie.close (tie.spec (λ c. search needs) (λ c. search needs) (λ c. search needs) returns returns-2)

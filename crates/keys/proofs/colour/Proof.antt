@@ -1,0 +1,36 @@
+-- `keys::colour` meets its contract. Assumes nothing.
+use native.Mathlib.Omega.{arith}
+use mathlib.Core.Path.{refl}
+use borrow.Author.Needs.{needs}
+use borrow.Rule.Slice.PartAt.{part-to-end}
+use Rattle.form.specs.Values.{kind}
+use Rattle.payload.specs.Answers.{colourOf, rgbAnswer}
+use Rattle.payload.proofs.LetElse.{gotOf, elseOf}
+use Rattle.keys.proofs.colour.Statement.{statement}
+use Rattle.keys.proofs.colour.Tie as tie
+
+returns : tie.Need-returns
+returns c =
+    let s = c .before .before .before .before .before .before .args .bytes .now in
+    record { is = elseOf rgbAnswer (rw (part-to-end s 0) at (c .before .before .before .read-rgb .ensures)) (c .before .enum-told .given .1) (c .refusal .ensures) refl }
+
+returns-2 : tie.Need-returns-2
+unfolding kind
+returns-2 c =
+    let s = c .before .before .before .before .before .before .args .bytes .now in
+    let read = c .before .answer .given in
+    record { is = (colourOf (read .0 .0), omega arith, omega arith, gotOf rgbAnswer (rw (part-to-end s 0) at (c .before .before .before .read-rgb .ensures)) (read .1)) }
+
+pub colour-spec : {M : Type 1} → statement M
+colour-spec =
+    tie.close
+    (tie.spec
+    (λ c. search needs)
+    (λ c. search needs)
+    (λ c. search needs)
+    (λ c κs. search needs)
+    (λ c. search needs)
+    (λ c. search needs)
+    (λ c κs. search needs)
+    returns
+    returns-2)

@@ -1,0 +1,18 @@
+-- `keys::fixed` meets its contract. Assumes nothing.
+use borrow.Author.Needs.{needs}
+use mathlib.Core.Path.{refl}
+use Rattle.payload.specs.Answers.{textOf, textAnswer}
+use Rattle.payload.proofs.LetElse.{gotOf, elseOf, placed-found, placed-refused}
+use Rattle.keys.proofs.fixed.Statement.{statement}
+use Rattle.keys.proofs.fixed.Tie as tie
+
+returns : tie.Need-returns
+returns c = record { is = placed-refused textOf _ (elseOf textAnswer (c .before .before .before .read-bytes .ensures) (c .before .enum-told .given .1) (c .refusal .ensures) refl) }
+
+returns-2 : tie.Need-returns-2
+returns-2 c = record { is = placed-found textOf _ (gotOf textAnswer (c .before .before .before .read-bytes .ensures) (c .before .part .given .1)) }
+
+pub fixed-spec : {M : Type 1} → statement M
+fixed-spec =
+    tie.close
+    (tie.spec (λ c κs. search needs) (λ c. search needs) (λ c. search needs) (λ c κs. search needs) returns returns-2)

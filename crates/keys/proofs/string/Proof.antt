@@ -1,0 +1,18 @@
+-- `keys::string` meets its contract. Assumes nothing.
+use borrow.Author.Needs.{needs}
+use mathlib.Core.Path.{refl}
+use Rattle.payload.specs.Answers.{textOf, textAnswer}
+use Rattle.payload.proofs.LetElse.{gotOf, elseOf, placed-found, placed-refused}
+use Rattle.keys.proofs.string.Statement.{statement}
+use Rattle.keys.proofs.string.Tie as tie
+
+returns : tie.Need-returns
+returns c = record { is = placed-refused textOf _ (elseOf textAnswer (c .before .before .before .read-string .ensures) (c .before .enum-told .given .1) (c .refusal .ensures) refl) }
+
+returns-2 : tie.Need-returns-2
+returns-2 c = record { is = placed-found textOf _ (gotOf textAnswer (c .before .before .before .read-string .ensures) (c .before .text .given .1)) }
+
+pub string-spec : {M : Type 1} → statement M
+string-spec =
+    tie.close
+    (tie.spec (λ c κs. search needs) (λ c. search needs) (λ c. search needs) (λ c κs. search needs) returns returns-2)
