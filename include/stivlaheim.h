@@ -51,7 +51,7 @@ enum { STIVLAHEIM_WORDS = 8 };
 enum {
     STIVLAHEIM_ANSWERED = 0,
     /* Refusals, with what word 1 holds. */
-    STIVLAHEIM_EOF = 1,              /* the position */
+    STIVLAHEIM_EOF = 1,              /* the position; and word 2 how many bytes are missing, at least 1 */
     STIVLAHEIM_INVALID_RGB = 2,      /* the position */
     STIVLAHEIM_NO_ROOM = 4,          /* the bytes needed */
     STIVLAHEIM_BUFFER_TOO_SMALL = 5, /* the position */
@@ -278,7 +278,8 @@ uint32_t stivlaheim_contents_read(const uint8_t *file, size_t file_len, uint32_t
  * slice stands in the supply, and stays.
  *
  * BAD_ARGUMENT, after the test of the answer list, if `state` has fewer than six words or its sixth is over 1. Then BAD_PLACE with the first
- * number of the state that does not fit, and nothing is moved. BUFFER_TOO_SMALL, READ_FAILED and EOF have the position. */
+ * number of the state that does not fit, and nothing is moved. BUFFER_TOO_SMALL, READ_FAILED and EOF have the
+ * position, and EOF how many bytes the window has fewer than were asked for. */
 
 /* The schedule's entry for a read that fails. */
 #define STIVLAHEIM_FAILS UINT32_C(0xffffffff)

@@ -25,7 +25,7 @@ at-end s p k e = rw (from-end s p (omega arith), e)
 -- a fault's refusal names its position
 position : (p : ℕ) (e : Fault) → refusalValue (refusalAt p e) ≡ p
 unfolding refusalValue refusalValues refusalAt
-position p tooShort = refl
+position p (tooShort m) = refl
 position p badColour = refl
 
 module _ (s : List ℕ) (p : ℕ) where

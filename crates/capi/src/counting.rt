@@ -24,7 +24,7 @@ fn count(bytes: &[u8]) -> Reply
     let mut n: usize = 0;
     while at < bytes.len() {
         let r = token::read_token(bytes, at);
-        let ReadToken::Got(_, next) = r else {
+        let ReadToken::Got(next, _) = r else {
             let kind = r.refusal();
             return replies::refused(at, Refusal::Lexed(LexerError { position: at, kind }));
         };

@@ -35,7 +35,7 @@ fn filled_reply(x: Filled) -> Reply
 {
     match x {
         Filled::Listed(n) => replies::answered(n, 0, 0, 0),
-        Filled::Eof(p) => replies::coded(codes::EOF, 0, p as u64, 0, 0),
+        Filled::Eof(p, missing) => replies::coded(codes::EOF, 0, p as u64, missing as u64, 0),
         Filled::InvalidRgb(p) => replies::coded(codes::INVALID_RGB, 0, p as u64, 0, 0),
         Filled::ListFull(n) => replies::coded(codes::LIST_FULL, 0, n as u64, 0, 0),
         Filled::TooLong(n) => replies::coded(codes::TOO_LONG, 0, n as u64, 0, 0),

@@ -74,7 +74,13 @@ pub(crate) fn refused(at: usize, x: Refusal) -> Reply
         Refusal::Lexed(e) => {
             let k = e.kind;
             match k {
-                LexError::Eof => coded(codes::EOF, at, e.position as u64, 0, 0),
+                LexError::Eof(missing) => coded(
+                    codes::EOF,
+                    at,
+                    e.position as u64,
+                    missing as u64,
+                    0,
+                ),
                 LexError::InvalidRgb => coded(codes::INVALID_RGB, at, e.position as u64, 0, 0),
             }
         }

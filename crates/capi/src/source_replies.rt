@@ -55,7 +55,7 @@ fn refused(at: usize, x: ParserError) -> Reply
     ensures { λ r. ⌜ asReply r ≡ Replies.refused at (refusalOf x) ⌝ }
 {
     match x {
-        ParserError::Eof(p) => replies::coded(codes::EOF, at, p as u64, 0, 0),
+        ParserError::Eof(p, missing) => replies::coded(codes::EOF, at, p as u64, missing as u64, 0),
         ParserError::InvalidRgb(p) => replies::coded(codes::INVALID_RGB, at, p as u64, 0, 0),
         ParserError::BufferTooSmall(p) => replies::coded(
             codes::BUFFER_TOO_SMALL,

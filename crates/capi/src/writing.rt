@@ -97,7 +97,7 @@ fn normalised_reply(x: Normalised) -> Reply
 {
     match x {
         Normalised::Written(n) => replies::answered(n, 0, 0, 0),
-        Normalised::Eof(p) => replies::coded(codes::EOF, 0, p as u64, 0, 0),
+        Normalised::Eof(p, missing) => replies::coded(codes::EOF, 0, p as u64, missing as u64, 0),
         Normalised::InvalidRgb(p) => replies::coded(codes::INVALID_RGB, 0, p as u64, 0, 0),
         Normalised::WideLookup(p) => replies::coded(codes::WIDE_LOOKUP, 0, p as u64, 0, 0),
         Normalised::NoRoom(n) => replies::coded(codes::NO_ROOM, 0, n as u64, 0, 0),
@@ -123,7 +123,7 @@ fn shortened_reply(x: Shortened) -> Reply
 {
     match x {
         Shortened::Written(n) => replies::answered(n, 0, 0, 0),
-        Shortened::Eof(p) => replies::coded(codes::EOF, 0, p as u64, 0, 0),
+        Shortened::Eof(p, missing) => replies::coded(codes::EOF, 0, p as u64, missing as u64, 0),
         Shortened::InvalidRgb(p) => replies::coded(codes::INVALID_RGB, 0, p as u64, 0, 0),
         Shortened::NoRoom(n) => replies::coded(codes::NO_ROOM, 0, n as u64, 0, 0),
         Shortened::TooLong(n) => replies::coded(codes::TOO_LONG, 0, n as u64, 0, 0),

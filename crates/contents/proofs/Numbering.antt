@@ -215,7 +215,7 @@ module _ (s : List ℕ) where
 -- an answer that counts nothing
 not-listed : (r : Filled) → OneOf (1 ∷ 2 ∷ 3 ∷ 4 ∷ []) (tagOf the-type r) → (n : ℕ) → filledOutcome r ≡ wrote n → ⊥
 not-listed (Listed m) q n e = ⊎-elim (λ h. omega arith) (⊎-elim (λ h. omega arith) (⊎-elim (λ h. omega arith) (λ h. omega arith))) q
-not-listed (Eof p) q n e = never (cc)
+not-listed (Eof p m) q n e = never (cc)
 not-listed (InvalidRgb p) q n e = never (cc)
 not-listed (ListFull m) q n e = never (cc)
 not-listed (TooLong m) q n e = never (cc)

@@ -40,7 +40,7 @@ use Rattle.contents.proofs.Numbering.{all-keys, within, uncut, counted}
 
 pub unlisted : (r : Filled) → OneOf (1 ∷ 2 ∷ 3 ∷ 4 ∷ []) (tagOf U.the-type r) → (n : ℕ) → filledOutcome r ≡ wrote n → ⊥
 unlisted (L.Listed m) q n e = ⊎-elim (λ h. omega arith) (⊎-elim (λ h. omega arith) (⊎-elim (λ h. omega arith) (λ h. omega arith))) q
-unlisted (L.Eof p) q n e = never (cc)
+unlisted (L.Eof p m) q n e = never (cc)
 unlisted (L.InvalidRgb p) q n e = never (cc)
 unlisted (L.ListFull m) q n e = never (cc)
 unlisted (L.TooLong m) q n e = never (cc)

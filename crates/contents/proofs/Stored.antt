@@ -70,7 +70,7 @@ module _ (s : List ℕ) (room : ℕ) where
   pub stored-all : (r : Filled) → filledOutcome r ≡ fillingOutcome (F.fill room s) → 0 < filledNumber r
       → (filledNumber r ≤ room) × (length s ≤ LIMIT) × (filledNumber r ≡ length (contents s))
   stored-all (L.Listed n) told h = let x = all-listed told in (x .2, x .3, x .1)
-  stored-all (L.Eof p) told h = absurd (not-suc-le-zero h)
+  stored-all (L.Eof p m) told h = absurd (not-suc-le-zero h)
   stored-all (L.InvalidRgb p) told h = absurd (not-suc-le-zero h)
   stored-all (L.ListFull n) told h = absurd (not-suc-le-zero h)
   stored-all (L.TooLong n) told h = absurd (not-suc-le-zero h)
@@ -80,7 +80,7 @@ pub fills : (s : List ℕ) {d d′ : List Entry} (r : Filled) → filledOutcome 
 fills s {d} (L.Listed n) told e =
     let x = all-listed s (length d) told in
     comes (F.fill (length d) s) (x .0) (omega (arith, x)) told (e ∙ ap (sets (map entryOf d) 0) (take-all n (contents s) (omega (arith, x))))
-fills s {d} (L.Eof p) told e = stays (F.fill (length d) s) told e
+fills s {d} (L.Eof p m) told e = stays (F.fill (length d) s) told e
 fills s {d} (L.InvalidRgb p) told e = stays (F.fill (length d) s) told e
 fills s {d} (L.ListFull n) told e = stays (F.fill (length d) s) told e
 fills s {d} (L.TooLong n) told e = stays (F.fill (length d) s) told e

@@ -7,7 +7,7 @@ use Rattle.form.specs.Refusals.{refusalNumber, refusalValue, refusalValues}
 use Rattle.form.specs.Writing.{Outcome, wrote, declined, Follows}
 use Rattle.form.specs.Contents as F
 use Rattle.form.specs.Contents.{Filling, held, nowhere, unsearched, search, searchNumbers, writeFile, writeNumbers, readFile}
-use Rattle.form.proofs.Unique.{same, byNumber, follows-one}
+use Rattle.form.proofs.Unique.{same, byNumber, eofOrNumber, follows-one}
 use Rattle.contents.specs.declared.Entry.{Entry}
 use Rattle.contents.specs.declared.filling.Filled.{Filled}
 use Rattle.contents.specs.declared.filling.Filled.the-variants.{Listed, Eof, InvalidRgb, ListFull, TooLong}
@@ -26,12 +26,12 @@ fills-one answer back h x d {r} {r′} f g = (same answer back h r r′ (f .answ
 
 abbrev filledBack : Outcome → Filled
 filledBack (wrote n) = Listed n
-filledBack (declined r) = byNumber ((1, Eof) ∷ (2, InvalidRgb) ∷ (10, ListFull) ∷ []) TooLong r
+filledBack (declined r) = eofOrNumber Eof ((2, InvalidRgb) ∷ (10, ListFull) ∷ []) TooLong r
 
 filled-back : (r : Filled) → filledBack (filledOutcome r) ≡ r
 unfolding refusalNumber refusalValue refusalValues
 filled-back (Listed n) = refl
-filled-back (Eof p) = refl
+filled-back (Eof p m) = refl
 filled-back (InvalidRgb p) = refl
 filled-back (ListFull n) = refl
 filled-back (TooLong n) = refl

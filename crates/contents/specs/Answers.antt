@@ -21,7 +21,7 @@ entryOf e = span (e .start) (e .end)
 
 abbrev pub filledOutcome : Filled → Outcome
 filledOutcome (Listed n) = wrote n
-filledOutcome (Eof p) = declined (R.Eof p)
+filledOutcome (Eof p m) = declined (R.Eof p m)
 filledOutcome (InvalidRgb p) = declined (R.InvalidRgb p)
 filledOutcome (ListFull n) = declined (R.ListFull n)
 filledOutcome (TooLong n) = declined (R.TooLong n)

@@ -17,7 +17,7 @@ use Rattle.contents.specs.declared.entries.Key.{Key}
 -- none are where there is a refusal
 abbrev pub filledNumber : Filled → ℕ
 filledNumber (L.Listed n) = n
-filledNumber (L.Eof p) = 0
+filledNumber (L.Eof p m) = 0
 filledNumber (L.InvalidRgb p) = 0
 filledNumber (L.ListFull n) = 0
 filledNumber (L.TooLong n) = 0

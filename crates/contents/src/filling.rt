@@ -17,7 +17,7 @@ use payload::LexError;
 // The number of entries; or a refusal, which leaves the list as it is.
 pub enum Filled {
     Listed(usize),
-    Eof(usize),
+    Eof(usize, usize),
     InvalidRgb(usize),
     ListFull(usize),
     TooLong(usize),
@@ -30,7 +30,7 @@ impl Filled {
     {
         match self {
             Filled::Listed(n) => n,
-            Filled::Eof(_) => 0,
+            Filled::Eof(_, _) => 0,
             Filled::InvalidRgb(_) => 0,
             Filled::ListFull(_) => 0,
             Filled::TooLong(_) => 0,
@@ -71,7 +71,7 @@ fn refused(e: LexError, at: usize) -> Filled
     ensures { λ r. ⌜ filledOutcome r ≡ declined (refusalAt at (faultOf e)) ⌝ }
 {
     match e {
-        LexError::Eof => Filled::Eof(at),
+        LexError::Eof(missing) => Filled::Eof(at, missing),
         LexError::InvalidRgb => Filled::InvalidRgb(at),
     }
 }

@@ -36,7 +36,7 @@ kept = 1 ∷ 0 ∷ 0 ∷ 0 ∷ 16 ∷ 0 ∷ 0 ∷ 0 ∷ 2 ∷ 0 ∷ 0 ∷ 0 ∷ 
 pub contents-hold : (contents save ≡ two)
     × (fill 2 save ≡ filled two)
     × (fill 1 save ≡ unfilled (ListFull 2))
-    × (fill 0 (0x01 ∷ 0x28 ∷ 0x01 ∷ 0x00 ∷ 0x04 ∷ []) ≡ unfilled (Eof 4))
+    × (fill 0 (0x01 ∷ 0x28 ∷ 0x01 ∷ 0x00 ∷ 0x04 ∷ []) ≡ unfilled (Eof 4 1))
     × (fill 0 [] ≡ filled [])
 unfolding le kind table entries find orPlain after refusalAt further andThen mapped _followed-by_ _giving_ next num payload token step walkF walk isOpen
     isClose isEqual deeper ahead makesKey isKey those keysOf cutBy entriesTo contents roomFor unlessCut fill

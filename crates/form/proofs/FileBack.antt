@@ -25,10 +25,6 @@ module _ (l : List Entry) where
   unfolding file
   length-file = omega (arith, length-append (big (8 * length l)) (bigAll (flat l)), length-big (8 * length l), length-big-all (flat l), length-flat l)
 
-  pub file-bytes : Bytes (file l)
-  unfolding file
-  file-bytes = (omega arith, append-bytes (big (8 * length l)) (bigAll (flat l)) (big-bytes (8 * length l)) (big-all-bytes (flat l)))
-
 entries-back : (l : List Entry) → Below (2 ^ 32) (flat l) → entriesIn (length l) (bigAll (flat l)) ≡ l
 unfolding flat bigAll entriesIn
 entries-back [] b = refl
@@ -40,12 +36,6 @@ entries-back (x ∷ l) b =
     let e : drop 8 (a ++ (c ++ r)) ≡ r = sym (drop-drop 4 4 (a ++ (c ++ r))) ∙ ap (drop 4) d ∙ drop-at c r 4 (length-big (x .end)) in
     rw (d, e, take-at a (c ++ r) 4 (length-big (x .start)), take-at c r 4 (length-big (x .end)))
     (rw (number-big (x .start) (b .0), number-big (x .end) (b .1 .0), entries-back l (b .1 .1)))
-
--- what is left to write from the place i on
-pub rest-step : (d : Entry) (l : List Entry) (i : ℕ) → i < length l
-    → bigAll (flat (drop i l)) ≡ big (getD l i d .start) ++ (big (getD l i d .end) ++ bigAll (flat (drop (suc i) l)))
-unfolding flat bigAll
-rest-step d l i h = rw (drop-cons l i d)
 
 -- ---- what a file is
 
@@ -138,13 +128,6 @@ entry-in d (suc n) s (suc i) h =
     let z : 8 + 8 * i + 4 ≡ 8 + (8 * i + 4) = omega arith in
     rw (y, z, ← drop-drop (8 * i) 8 s, ← drop-drop (8 * i + 4) 8 s) (entry-in d n (drop 8 s) i (omega arith))
 
-pub entry-of : (d : Entry) (s : List ℕ) (i : ℕ) → i < (length s - 5) / 8
-    → getD (entriesOf s) i d ≡ span (bigNumber (take 4 (drop (5 + 8 * i) s))) (bigNumber (take 4 (drop (9 + 8 * i) s)))
-unfolding entriesOf
-entry-of d s i h =
-    let z : 9 + 8 * i ≡ 5 + (8 * i + 4) = omega arith in
-    rw (z, ← drop-drop (8 * i) 5 s, ← drop-drop (8 * i + 4) 5 s) (entry-in d ((length s - 5) / 8) (drop 5 s) i h)
-
 -- a number of a list of bytes
 taken-small : (s : List ℕ) → Bytes s → bigNumber (take 4 s) < 2 ^ 32
 taken-small s b = number-small (take 4 s) (take-bytes 4 s b) (rw length-take (omega arith))
@@ -167,10 +150,6 @@ in-back (suc n) s b h =
     (rw (← drop-drop 4 4 s, take-append-drop 4 (drop 4 s), take-append-drop 4 s))
 
 module _ (s : List ℕ) (b : Bytes s) where
-  pub entries-of-small : Below (2 ^ 32) (flat (entriesOf s))
-  unfolding entriesOf
-  entries-of-small = entries-small ((length s - 5) / 8) (drop 5 s) (drop-bytes 5 s b)
-
   module _ (h : isFile s ≡ true) where
     pub length-entries-of : 5 + 8 * length (entriesOf s) ≡ length s
     unfolding entriesOf

@@ -8,13 +8,14 @@ use mathlib.Core.List.{List}
 use lib.ListN.{length, take, drop, length-drop}
 use lib.Seq.{length-take-le}
 use lib.Dec.{T, leb, eqb, leb→le}
+use borrow.Author.Tests.{le-leb}
 use Rattle.form.specs.Numbers.{pick, le, Bytes}
 use Rattle.form.specs.Refusals.{Fault}
 use Rattle.form.specs.Values.{Value, Rgb}
 use Rattle.form.specs.Table.{Payload, number, text, colour, after}
 use Rattle.form.specs.Ids.{CLOSE, CHANNEL}
 use Rattle.form.specs.Readers.{Answer, found, refused, Reader, further, andThen, mapped, _followed-by_, give, refuse, _giving_}
-use Rattle.form.specs.Reading.{next, num, string, Channel, channel, withAlpha, ending, headed, judged, rgb, payload, token}
+use Rattle.form.specs.Reading.{next, piece, num, string, Channel, channel, alphaEnd, withAlpha, ending, headed, judged, channels, rgb, payload, token}
 use Rattle.form.proofs.LittleEndian.{le-take-lt, take-bytes, drop-bytes}
 
 -- ---- answers
@@ -71,6 +72,23 @@ pub record Next (n : ℕ) (s t : List ℕ) (k : ℕ) : Type 0 where
 pub next-found : (n : ℕ) (s : List ℕ) → All (Next n s) (next n s)
 unfolding next
 next-found n s = all-pick (Next n s) (leb n (length s)) _ _ (λ l. record { count = refl; there = leb→le _ _ l; is = refl }) tt
+
+pub next-there : (n : ℕ) (s : List ℕ) → n ≤ length s → next n s ≡ found (take n s) n
+unfolding next
+next-there n s h = rw (le-leb n (length s) h)
+
+-- what is asked for at once and is there is read
+pub piece-there : {A : Type 0} (n : ℕ) (f : Reader A) (s : List ℕ) → n ≤ length s → piece n f s ≡ f s
+unfolding piece andThen
+piece-there n f s h = rw (next-there n s h)
+
+pub all-piece : {A : Type 0} (P : A → ℕ → Type 0) (n : ℕ) (f : Reader A) (s : List ℕ) → All P (f s) → All P (piece n f s)
+unfolding piece andThen
+all-piece P n f s h = go (next n s)
+  where
+    go : (x : Answer (List ℕ)) → All P (andThen x (λ _ _. f s))
+    go (found t k) = h
+    go (refused why) = tt
 
 -- a number of w bytes
 pub record Number (w : ℕ) (s : List ℕ) (x n : ℕ) : Type 0 where
@@ -136,8 +154,8 @@ module _ (P : Value → ℕ → Type 0) (s : List ℕ)
     (three : (r g b : ℕ) → 22 ≤ length s → (Bytes s → Small r × Small g × Small b) → P (Rgb r g b none) 22)
     (four : (r g b a : ℕ) → 28 ≤ length s → (Bytes s → Small r × Small g × Small b × Small a) → P (Rgb r g b (some a)) 28) where
   module _ (r g b : ℕ) (small : Bytes s → Small r × Small g × Small b) (t : List ℕ) (left : 22 + length t ≡ length s) (bytes : Bytes s → Bytes t) where
-    alpha-found : All (λ v m. P v (22 + m)) (withAlpha r g b t)
-    unfolding withAlpha give
+    alpha-found : All (λ v m. P v (22 + m)) (alphaEnd r g b t)
+    unfolding alphaEnd give
     alpha-found =
         all-then (Number 4 t) (λ v m. P v (22 + m)) (num 4) _ t (num-found 4 t)
         (λ a i x. all-then (Number 2 (drop i t)) (λ v m. P v (22 + (i + m))) (num 2) _ (drop i t) (num-found 2 (drop i t))
@@ -148,14 +166,14 @@ module _ (P : Value → ℕ → Type 0) (s : List ℕ)
         (refuse-all _ _ _)))
 
     ending-found : (e : ℕ) → All (λ v m. P v (22 + m)) (ending e r g b t)
-    unfolding ending give
+    unfolding ending withAlpha give
     ending-found e =
         pick-all _ (eqb e CLOSE) _ _ t (three r g b (omega arith) small)
-        (pick-all _ (eqb e CHANNEL) _ _ t alpha-found (refuse-all _ _ _))
+        (pick-all _ (eqb e CHANNEL) _ _ t (all-piece _ 6 (alphaEnd r g b) t alpha-found) (refuse-all _ _ _))
 
-  pub rgb-found : All P (rgb s)
-  unfolding rgb judged
-  rgb-found =
+  channels-found : All P (channels s)
+  unfolding channels judged
+  channels-found =
       all-then (Number 2 s) P (num 2) _ s (num-found 2 s) (λ o i x.
       let s1 = drop i s in let l1 = length-drop i s in
       all-then (Sextet s1) (λ v m. P v (i + m)) channel _ s1 (channel-found s1) (λ r j y.
@@ -176,6 +194,28 @@ module _ (P : Value → ℕ → Type 0) (s : List ℕ)
       (ending-found (r .value) (g .value) (b .value) (λ h. (y .small (b1 h), z .small (b2 h), u .small (b3 h))) s5 d b5 e)
       (refuse-all _ _ _))
       (λ v m q. let p : i + (j + (k + (l + (n + m)))) ≡ 22 + m = omega (arith, x .count, y .count, z .count, u .count, w .count) in rw p q))))))
+
+  pub rgb-found : All P (rgb s)
+  unfolding rgb
+  rgb-found = all-piece P 22 channels s channels-found
+
+-- no less is taken than was asked for, and it ends within the bytes
+pub record Whole (n : ℕ) (s : List ℕ) (k : ℕ) : Type 0 where
+  pub takes : n ≤ k
+  pub there : k ≤ length s
+
+pub channels-whole : (s : List ℕ) → All (λ _ k. Whole 22 s k) (channels s)
+channels-whole s =
+    channels-found (λ _ k. Whole 22 s k) s (λ r g b l _. record { takes = omega arith; there = l }) (λ r g b a l _. record { takes = omega arith; there = l })
+
+pub alpha-whole : (r g b : ℕ) (s : List ℕ) → All (λ _ k. Whole 6 s k) (alphaEnd r g b s)
+unfolding alphaEnd give
+alpha-whole r g b s =
+    all-then (Number 4 s) (λ _ k. Whole 6 s k) (num 4) _ s (num-found 4 s) (λ a i x.
+    all-then (Number 2 (drop i s)) (λ _ k. Whole 6 s (i + k)) (num 2) _ (drop i s) (num-found 2 (drop i s)) (λ c j y.
+    pick-all _ (eqb c CLOSE) _ _ (drop j (drop i s))
+    (record { takes = omega (arith, x .count, y .count); there = omega (arith, x .count, x .there, y .count, y .there, length-drop i s) })
+    (refuse-all _ _ _)))
 
 -- ---- a token
 

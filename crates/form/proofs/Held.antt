@@ -100,17 +100,9 @@ module _ (s : List ℕ) (p : ℕ) where
 -- ---- of a list
 
 module _ (p : ℕ) where
-  pub held-here : (x : Entry) → x .start ≤ p → p < x .end → holdsAt p x ≡ true
-  unfolding holdsAt
-  held-here x h m = rw (le-leb (x .start) p h, lt-ltb p (x .end) m)
-
   pub held-within : (x : Entry) → holdsAt p x ≡ true → (x .start ≤ p) × (p < x .end)
   unfolding holdsAt
   held-within x h = let t = both (leb (x .start) p) (ltb p (x .end)) h in (leb-true (x .start) p (t .0), ltb-true p (x .end) (t .1))
-
-  pub not-before : (x : Entry) → p < x .start → holdsAt p x ≡ false
-  unfolding holdsAt
-  not-before x h = rw (lt-leb (x .start) p h)
 
   pub not-after : (x : Entry) → x .end ≤ p → holdsAt p x ≡ false
   unfolding holdsAt

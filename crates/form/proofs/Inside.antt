@@ -1,7 +1,7 @@
 -- A read that refuses no bytes at all finds nothing at the end of the bytes, nor past it. Assumes nothing.
 use Prim.Native.Nat.{ℕ, _<_}
 use native.Mathlib.Omega.{arith}
-use mathlib.Core.Path.{_≡_, refl}
+use mathlib.Core.Path.{_≡_, refl, ap}
 use mathlib.Core.Bool.{Bool, true, false}
 use mathlib.Core.List.{List, []}
 use lib.ListN.{length, drop, drop-of-length-le}
@@ -9,26 +9,26 @@ use lib.Dec.{ltb}
 use borrow.Author.Tests.{ltb-true, ltb-false, lt-leb}
 use Rattle.form.specs.Refusals.{Fault, tooShort}
 use Rattle.form.specs.Readers.{Answer, found, refused, Reader, ByPlace, further, andThen, mapped, placed, _followed-by_, _giving_, at}
-use Rattle.form.specs.Reading.{next, num, string, rgb, token}
+use Rattle.form.specs.Reading.{next, piece, num, string, rgb, token}
 use Rattle.form.proofs.Never.{never}
 
 -- whatever is found begins inside the bytes
 abbrev pub Inside : {A : Type 0} → ByPlace A → Type 0
 Inside {A} f = (s : List ℕ) (p : ℕ) (a : A) (n : ℕ) → f s p ≡ found a n → p < length s
 
--- no bytes are too few
-abbrev pub Starved : {A : Type 0} → Reader A → Type 0
-Starved f = f [] ≡ refused tooShort
+-- no bytes are too few, by m
+abbrev pub Starved : {A : Type 0} → ℕ → Reader A → Type 0
+Starved m f = f [] ≡ refused (tooShort m)
 
-pub inside : {A : Type 0} (f : Reader A) → Starved f → Inside (at f)
+pub inside : {A : Type 0} (m : ℕ) (f : Reader A) → Starved m f → Inside (at f)
 unfolding at further
-inside f h s p a n e = go (ltb p (length s)) refl
+inside m f h s p a n e = go (ltb p (length s)) refl
   where
     go : (b : Bool) → ltb p (length s) ≡ b → p < length s
     go true t = ltb-true p (length s) t
     go false t =
         let d : drop p s ≡ [] = drop-of-length-le s (ltb-false p (length s) t) in
-        let q : refused tooShort ≡ found a n = rw (d, h) at e in
+        let q : refused (tooShort m) ≡ found a n = rw (d, h) at e in
         never (cc)
 
 -- what hands faults on finds no more
@@ -49,28 +49,28 @@ inside-placed f g = inside-through f (placed g) (λ why. refl)
 
 -- ---- the readings
 
-starved-then : {A B : Type 0} (f : Reader A) (g : A → Reader B) → Starved f → Starved (f followed-by g)
+starved-then : {A B : Type 0} {m : ℕ} (f : Reader A) (g : A → Reader B) → Starved m f → Starved m (f followed-by g)
 unfolding _followed-by_ andThen
 starved-then f g h = rw h
 
-num-starved : (w : ℕ) → 0 < w → Starved (num w)
+num-starved : (w : ℕ) → 0 < w → Starved w (num w)
 unfolding num next _giving_ mapped
-num-starved w h = rw (lt-leb w 0 h)
+num-starved w h = rw (lt-leb w 0 h) (ap (λ (m : ℕ). refused (tooShort m)) (omega arith))
 
 pub num-inside : (w : ℕ) → 0 < w → Inside (at (num w))
-num-inside w h = inside (num w) (num-starved w h)
+num-inside w h = inside w (num w) (num-starved w h)
 
-id-starved : Starved (num 2)
+id-starved : Starved 2 (num 2)
 id-starved = num-starved 2 (omega arith)
 
 pub string-inside : Inside (at string)
 unfolding string
-string-inside = inside string (starved-then (num 2) next id-starved)
+string-inside = inside 2 string (starved-then (num 2) next id-starved)
 
 pub rgb-inside : Inside (at rgb)
-unfolding rgb
-rgb-inside = inside rgb (starved-then (num 2) _ id-starved)
+unfolding rgb piece next andThen
+rgb-inside = inside 22 rgb refl
 
 pub token-inside : Inside (at token)
 unfolding token
-token-inside = inside token (starved-then (num 2) _ id-starved)
+token-inside = inside 2 token (starved-then (num 2) _ id-starved)

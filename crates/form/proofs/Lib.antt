@@ -17,6 +17,7 @@ pub mod Standing
 pub mod TextsLast
 pub mod Walking
 pub mod Local
+pub mod Missing
 pub mod Tests
 pub mod ById
 pub mod FirstKey

@@ -1,5 +1,5 @@
 -- What is found is told by the bytes that it takes: all bytes that begin with them give the same. Assumes nothing.
-use Prim.Native.Nat.{ℕ, _+_, _≤_}
+use Prim.Native.Nat.{ℕ, _+_, _-_, _≤_}
 use native.Mathlib.Omega.{arith}
 use mathlib.Core.Path.{_≡_, refl, sym, ap, _∙_}
 use mathlib.Core.Bool.{Bool, true, false}
@@ -14,8 +14,8 @@ use Rattle.form.specs.Table.{Payload, number, text, colour, after}
 use Rattle.form.specs.Ids.{CLOSE, CHANNEL}
 use Rattle.form.specs.Refusals.{Fault}
 use Rattle.form.specs.Readers.{Answer, found, refused, Reader, further, andThen, mapped, _followed-by_, _giving_, give, refuse}
-use Rattle.form.specs.Reading.{next, num, string, Channel, channel, withAlpha, ending, headed, judged, rgb, payload, token}
-use Rattle.form.proofs.Found.{All, all-pick, all-mapped, all-then, all-weaken}
+use Rattle.form.specs.Reading.{next, piece, num, string, Channel, channel, alphaEnd, withAlpha, ending, headed, judged, channels, rgb, payload, token}
+use Rattle.form.proofs.Found.{All, all-pick, all-mapped, all-then, all-weaken, Next, next-found, piece-there, Whole, channels-whole, alpha-whole}
 
 -- t begins with the first n bytes of s
 abbrev pub Begins : ℕ → List ℕ → List ℕ → Type 0
@@ -82,6 +82,23 @@ local-pick : {A : Type 0} (b : Bool) {f g : Reader A} → Local f → Local g �
 local-pick true h k = h
 local-pick false h k = k
 
+-- of what is asked for at once no less is taken
+local-piece : {A : Type 0} (n : ℕ) {f : Reader A} → ((s : List ℕ) → All (λ _ k. Whole n s k) (f s)) → Local f → Local (piece n f)
+unfolding piece andThen
+local-piece {A} n {f} whole h = record {
+  of = λ s t. go s t (next n s) (next-found n s);
+}
+  where
+    go : (s t : List ℕ) (x : Answer (List ℕ)) → All (Next n s) x → All (λ _ k. Begins k s t → piece n f t ≡ andThen x (λ _ _. f s)) (andThen x (λ _ _. f s))
+    go s t (found u k) y = both-found (f s) (whole s) (h .of s t)
+      where
+        both-found : (z : Answer A) → All (λ _ k. Whole n s k) z → All (λ _ k. Begins k s t → f t ≡ f s) z → All (λ _ k. Begins k s t → piece n f t ≡ f s) z
+        both-found (found a k) l e = λ b.
+            let d : n + (k - n) ≡ k = omega arith in
+            piece-there n f t (begins-length n s t (y .there) (begins-front n (k - n) s t (rw d b))) ∙ e b
+        both-found (refused why) l e = tt
+    go s t (refused why) y = tt
+
 -- ---- bytes, numbers and texts
 
 local-next : (n : ℕ) → Local (next n)
@@ -110,9 +127,11 @@ unfolding channel
 local-channel = local-then (local-num 2) (λ i. local-giving _ (local-num 4))
 
 local-alpha : (r g b : ℕ) → Local (withAlpha r g b)
-unfolding withAlpha
-local-alpha r g b =
-    local-then (local-num 4) (λ a. local-then (local-num 2) (λ e. local-pick (eqb e CLOSE) (local-give _) (local-refuse _)))
+unfolding withAlpha alphaEnd
+local-alpha r g b = local-piece 6 (alpha-whole r g b) end
+  where
+    end : Local (alphaEnd r g b)
+    end = local-then (local-num 4) (λ a. local-then (local-num 2) (λ e. local-pick (eqb e CLOSE) (local-give _) (local-refuse _)))
 
 local-ending : (e r g b : ℕ) → Local (ending e r g b)
 unfolding ending
@@ -122,14 +141,18 @@ local-judged : (o : ℕ) (r g b : Channel) (e : ℕ) → Local (judged o r g b e
 unfolding judged
 local-judged o r g b e = local-pick (headed o (r .tag) (g .tag) (b .tag)) (local-ending e (r .value) (g .value) (b .value)) (local-refuse _)
 
-local-rgb : Local rgb
-unfolding rgb
-local-rgb =
+local-channels : Local channels
+unfolding channels
+local-channels =
     local-then (local-num 2) (λ o.
     local-then local-channel (λ r.
     local-then local-channel (λ g.
     local-then local-channel (λ b.
     local-then (local-num 2) (λ e. local-judged o r g b e)))))
+
+local-rgb : Local rgb
+unfolding rgb
+local-rgb = local-piece 22 channels-whole local-channels
 
 local-payload : (p : Payload) → Local (payload p)
 unfolding payload

@@ -18,7 +18,7 @@ use Rattle.form.specs.Values.{Value, Rgb}
 use Rattle.form.specs.Table.{Payload, nothing, after}
 use Rattle.form.specs.Ids.{CLOSE, CHANNEL}
 use Rattle.form.specs.Readers.{Answer, found, refused, Reader, further, andThen, mapped, _followed-by_, _giving_, give, refuse, at, placed}
-use Rattle.form.specs.Reading.{next, num, string, channel, withAlpha, ending, headed, judged, rgb, payload, token}
+use Rattle.form.specs.Reading.{next, piece, num, string, channel, alphaEnd, withAlpha, ending, headed, judged, channels, payload, token}
 use Rattle.form.proofs.Never.{never}
 use Rattle.form.proofs.LittleEndian.{le-take-lt, drop-bytes, bytes-all}
 
@@ -76,7 +76,11 @@ module _ (n : ℕ) (s : List ℕ) (p : ℕ) where
   unfolding at next further
   at-next h = rw (le-leb n (length (drop p s)) h)
 
-  pub at-short : length (drop p s) < n → at (next n) s p ≡ refused tooShort
+  -- how many bytes are missing
+  abbrev lacking : ℕ
+  lacking = n - length (drop p s)
+
+  pub at-short : length (drop p s) < n → at (next n) s p ≡ refused (tooShort lacking)
   unfolding at next further
   at-short h = rw (lt-leb n (length (drop p s)) h)
 
@@ -84,7 +88,7 @@ module _ (n : ℕ) (s : List ℕ) (p : ℕ) where
   unfolding num mapped
   num-there h = at-giving (next n) le s p ∙ rw (at-next h)
 
-  pub num-short : length (drop p s) < n → at (num n) s p ≡ refused tooShort
+  pub num-short : length (drop p s) < n → at (num n) s p ≡ refused (tooShort lacking)
   unfolding num mapped
   num-short h = at-giving (next n) le s p ∙ rw (at-short h)
 
@@ -95,15 +99,15 @@ module _ (w : ℕ) (s : List ℕ) (p : ℕ) where
     pub next : n ≡ p + w
     pub there : w ≤ length (drop p s)
 
-  by-test : (b : Bool) (x n : ℕ) → leb w (length (drop p s)) ≡ b → pick b (found (le (take w (drop p s))) (p + w)) (refused tooShort) ≡ found x n → Took x n
+  by-test : (b : Bool) (x n : ℕ) → leb w (length (drop p s)) ≡ b → pick b (found (le (take w (drop p s))) (p + w)) (refused (tooShort (w - length (drop p s)))) ≡ found x n → Took x n
   by-test true x n t e = record { value = cc; next = cc; there = leb-true w (length (drop p s)) t }
   by-test false x n t e = never (cc)
 
-  at-num : at (num w) s p ≡ pick (leb w (length (drop p s))) (found (le (take w (drop p s))) (p + w)) (refused tooShort)
+  at-num : at (num w) s p ≡ pick (leb w (length (drop p s))) (found (le (take w (drop p s))) (p + w)) (refused (tooShort (w - length (drop p s))))
   unfolding at num next _giving_ further mapped
   at-num = go (leb w (length (drop p s)))
     where
-      go : (b : Bool) → further p (mapped le (pick b (found (take w (drop p s)) w) (refused tooShort))) ≡ pick b (found (le (take w (drop p s))) (p + w)) (refused tooShort)
+      go : (b : Bool) → further p (mapped le (pick b (found (take w (drop p s)) w) (refused (tooShort (w - length (drop p s)))))) ≡ pick b (found (le (take w (drop p s))) (p + w)) (refused (tooShort (w - length (drop p s))))
       go true = refl
       go false = refl
 
@@ -138,7 +142,7 @@ module _ {B : Type 0} (g : ℕ → ℕ → B) where
       let d : b + n - n ≡ b = omega arith in
       rw (at-then (num 2) next s p, e, at-next n s b h, q, d)
 
-pub string-short : (s : List ℕ) (p : ℕ) {n b : ℕ} → at (num 2) s p ≡ found n b → length (drop b s) < n → at string s p ≡ refused tooShort
+pub string-short : (s : List ℕ) (p : ℕ) {n b : ℕ} → at (num 2) s p ≡ found n b → length (drop b s) < n → at string s p ≡ refused (tooShort (n - length (drop b s)))
 unfolding string andThen
 string-short s p {n} {b} e h = rw (at-then (num 2) next s p, e, at-short n s b h)
 
@@ -155,9 +159,19 @@ channel-then s p =
     at-then (num 2) (λ i. num 4 giving (λ n. record { tag = i; value = n })) s p
     ∙ same-then (at (num 2) s p) _ _ (λ i n. at-giving (num 4) (λ n. record { tag = i; value = n }) s n ∙ mapped-then (λ n. record { tag = i; value = n }) (at (num 4) s n))
 
+-- what is asked for at once, by its first bytes
+module _ {A : Type 0} (n : ℕ) (f : Reader A) (s : List ℕ) (p : ℕ) where
+  pub piece-then : at (piece n f) s p ≡ andThen (at (next n) s p) (λ _ _. at f s p)
+  unfolding piece at andThen further
+  piece-then = go (next n (drop p s))
+    where
+      go : (x : Answer (List ℕ)) → further p (andThen x (λ _ _. f (drop p s))) ≡ andThen (further p x) (λ _ _. further p (f (drop p s)))
+      go (found a k) = refl
+      go (refused why) = refl
+
 pub alpha-then : (r g b : ℕ) (s : List ℕ) (p : ℕ)
-    → at (withAlpha r g b) s p ≡ andThen (at (num 4) s p) (λ a n. andThen (at (num 2) s n) (λ e m. pick (eqb e CLOSE) (found (Rgb r g b (some a)) m) (refused badColour)))
-unfolding withAlpha
+    → at (alphaEnd r g b) s p ≡ andThen (at (num 4) s p) (λ a n. andThen (at (num 2) s n) (λ e m. pick (eqb e CLOSE) (found (Rgb r g b (some a)) m) (refused badColour)))
+unfolding alphaEnd
 alpha-then r g b s p =
     at-then (num 4) (λ a. num 2 followed-by (λ e. pick (eqb e CLOSE) (give (Rgb r g b (some a))) (refuse badColour))) s p
     ∙ same-then (at (num 4) s p) _ _ (λ a n. at-then (num 2) (λ e. pick (eqb e CLOSE) (give (Rgb r g b (some a))) (refuse badColour)) s n
@@ -170,11 +184,11 @@ ending-then e r g b s p =
     at-pick (eqb e CLOSE) (give (Rgb r g b none)) (pick (eqb e CHANNEL) (withAlpha r g b) (refuse badColour)) s p
     ∙ rw (at-give (Rgb r g b none) s p, at-pick (eqb e CHANNEL) (withAlpha r g b) (refuse badColour) s p, at-refuse {A = Value} badColour s p)
 
-pub rgb-then : (s : List ℕ) (p : ℕ)
-    → at rgb s p ≡ andThen (at (num 2) s p) (λ o n. andThen (at channel s n) (λ r m. andThen (at channel s m) (λ g k. andThen (at channel s k) (λ b j. andThen (at (num 2) s j)
+pub channels-then : (s : List ℕ) (p : ℕ)
+    → at channels s p ≡ andThen (at (num 2) s p) (λ o n. andThen (at channel s n) (λ r m. andThen (at channel s m) (λ g k. andThen (at channel s k) (λ b j. andThen (at (num 2) s j)
     (λ e i. pick (headed o (r .tag) (g .tag) (b .tag)) (at (ending e (r .value) (g .value) (b .value)) s i) (refused badColour))))))
-unfolding rgb judged
-rgb-then s p =
+unfolding channels judged
+channels-then s p =
     at-then (num 2) _ s p ∙ same-then (at (num 2) s p) _ _ (λ o n.
     at-then channel _ s n ∙ same-then (at channel s n) _ _ (λ r m.
     at-then channel _ s m ∙ same-then (at channel s m) _ _ (λ g k.

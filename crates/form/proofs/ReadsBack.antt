@@ -1,9 +1,9 @@
 -- Reading what was spelled gives it back. Assumes nothing.
-use Prim.Native.Nat.{ℕ, _+_, _^_, _<_}
+use Prim.Native.Nat.{ℕ, _+_, _^_, _≤_, _<_}
 use native.Mathlib.Omega.{arith}
 use mathlib.Core.Path.{_≡_, refl, ap, _∙_}
 use mathlib.Core.Bool.{Bool, true, false, not}
-use mathlib.Core.Option.{none, some}
+use mathlib.Core.Option.{Option, none, some}
 use mathlib.Core.List.{List, _++_, append-assoc}
 use lib.ListN.{length, length-append}
 use lib.Seq.{take-at, drop-at}
@@ -19,8 +19,9 @@ use Rattle.form.specs.Table.{number, text, table, entries, find, orPlain
 use Rattle.form.specs.Ids.{OPEN, CLOSE, CHANNEL}
 use Rattle.form.specs.Refusals.{LongString, WideLookup}
 use Rattle.form.specs.Readers.{Answer, found, Reader, further, andThen, mapped, _followed-by_, _giving_, give}
-use Rattle.form.specs.Reading.{next, num, string, Channel, channel, withAlpha, ending, headed, judged, rgb, payload, token}
+use Rattle.form.specs.Reading.{next, num, string, Channel, channel, alphaEnd, withAlpha, ending, headed, judged, channels, rgb, payload, token}
 use Rattle.form.specs.Spelling.{tag, spelledChannel, spelledAlpha, bit, body, spell, reason, writable, InType}
+use Rattle.form.proofs.Found.{piece-there}
 use Rattle.form.proofs.LittleEndian.{length-bytes, le-bytes}
 use Rattle.form.proofs.Lookups.{plain-after, open-is, close-is, channel-is}
 use Rattle.form.proofs.Reasons.{passed}
@@ -77,11 +78,20 @@ channel-length n = refl
 channel-then : {B : Type 0} (n : ℕ) (g : Channel → Reader B) → n < 2 ^ 32 → (s : List ℕ) → (channel followed-by g) (spelledChannel n ++ s) ≡ further 6 (g (channelOf n) s)
 channel-then n g h s = then-back channel g (spelledChannel n) s (channel-length n) (channel-back n h s)
 
+alpha-fits : (a : ℕ) (s : List ℕ) → 6 ≤ length (leBytes 4 a ++ (leBytes 2 CLOSE ++ s))
+unfolding leBytes
+alpha-fits a s = omega arith
+
+colour-fits : (r g b : ℕ) (a : Option ℕ) (s : List ℕ) → 22 ≤ length (body (Rgb r g b a) ++ s)
+unfolding body spelledChannel spelledAlpha leBytes
+colour-fits r g b none s = omega arith
+colour-fits r g b (some a) s = omega arith
+
 alpha-back : (r g b a : ℕ) → a < 2 ^ 32 → (s : List ℕ) → withAlpha r g b (leBytes 4 a ++ (leBytes 2 CLOSE ++ s)) ≡ found (Rgb r g b (some a)) 6
-unfolding withAlpha further give
+unfolding withAlpha alphaEnd further give
 alpha-back r g b a h s =
     let c : CLOSE < 256 ^ 2 = close-lt in
-    rw (num-then, num-then, close-is)
+    piece-there 6 (alphaEnd r g b) _ (alpha-fits a s) ∙ rw (num-then, num-then, close-is)
 
 -- the first four ids are right
 head-right : headed OPEN CHANNEL CHANNEL CHANNEL ≡ true
@@ -89,11 +99,11 @@ unfolding headed
 head-right = rw (open-is, channel-is)
 
 rgb3-back : (r g b : ℕ) → r < 2 ^ 32 → g < 2 ^ 32 → b < 2 ^ 32 → (s : List ℕ) → rgb (body (Rgb r g b none) ++ s) ≡ found (Rgb r g b none) 22
-unfolding rgb body judged ending spelledAlpha further give
+unfolding rgb channels body judged ending spelledAlpha further give
 rgb3-back r g b hr hg hb s =
     let o : OPEN < 256 ^ 2 = open-lt in
     let c : CLOSE < 256 ^ 2 = close-lt in
-    simp append-assoc (rw (num-then, channel-then, channel-then, channel-then, num-then, head-right, close-is))
+    piece-there 22 channels _ (colour-fits r g b none s) ∙ simp append-assoc (rw (num-then, channel-then, channel-then, channel-then, num-then, head-right, close-is))
 
 fourth-ends : (r g b : ℕ) → ending CHANNEL r g b ≡ withAlpha r g b
 unfolding ending
@@ -107,10 +117,10 @@ fourth-back r g b a ha s =
     simp append-assoc (rw (num-then, head-right, fourth-ends, alpha-back))
 
 rgb4-back : (r g b a : ℕ) → r < 2 ^ 32 → g < 2 ^ 32 → b < 2 ^ 32 → a < 2 ^ 32 → (s : List ℕ) → rgb (body (Rgb r g b (some a)) ++ s) ≡ found (Rgb r g b (some a)) 28
-unfolding rgb body spelledAlpha further
+unfolding rgb channels body spelledAlpha further
 rgb4-back r g b a hr hg hb ha s =
     let o : OPEN < 256 ^ 2 = open-lt in
-    simp append-assoc (rw (num-then, channel-then, channel-then, channel-then, fourth-back))
+    piece-there 22 channels _ (colour-fits r g b (some a) s) ∙ simp append-assoc (rw (num-then, channel-then, channel-then, channel-then, fourth-back))
 
 -- ---- a token
 

@@ -24,7 +24,7 @@ use Rattle.form.proofs.Sound.{Sound, token-sound}
 
 -- for what it holds, at a place of it: never for its length, or for want of room; never for a long string or a reserved id
 abbrev pub OfSave : ℕ → Refusal → Type 0
-OfSave n (Eof p) = p ≤ n
+OfSave n (Eof p m) = p ≤ n
 OfSave n (InvalidRgb p) = p ≤ n
 OfSave n (LongString p) = ⊥
 OfSave n (WideLookup p) = p ≤ n
@@ -55,7 +55,7 @@ refused-there n (suc k) p (b ∷ s) r h l e =
         either : (t : Bool) → first (pick t (some (WideLookup p)) none) (firstRefusal reason (walkF k (p + m) (drop m (b ∷ s)))) ≡ some r → OfSave n r
         either true q = is (WideLookup p) q (omega arith)
         either false q = ih m (x .there) q
-    go (refused tooShort) x q ih = is (Eof p) q (omega arith)
+    go (refused (tooShort m)) x q ih = is (Eof p m) q (omega arith)
     go (refused badColour) x q ih = is (InvalidRgb p) q (omega arith)
 
 pub save-refusal : (s : List ℕ) (r : Refusal) → Bytes s → firstRefusal reason (walk s) ≡ some r → OfSave (length s) r

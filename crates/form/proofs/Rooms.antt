@@ -192,7 +192,7 @@ unfolding errorLine line spaced refusalWord
 error-length d r h = simp length-append (omega (arith, decimal-short d (refusalValue r) h, word-length r))
   where
     word-length : (r : Refusal) → length (ascii (refusalWord r)) ≤ 4
-    word-length (Eof p) = omega arith
+    word-length (Eof p m) = omega arith
     word-length (InvalidRgb p) = omega arith
     word-length (LongString p) = omega arith
     word-length (WideLookup p) = omega arith
@@ -207,7 +207,7 @@ error-length d r h = simp length-append (omega (arith, decimal-short d (refusalV
 
 fault-length : (d p : ℕ) (f : Fault) → p < 10 ^ suc d → length (errorLine (refusalAt p f)) ≤ d + 13
 unfolding refusalAt refusalValue refusalValues
-fault-length d p tooShort h = error-length d (Eof p) h
+fault-length d p (tooShort m) h = error-length d (Eof p m) h
 fault-length d p badColour h = error-length d (InvalidRgb p) h
 
 end-length : (d n : ℕ) (c : Counts) → n < 10 ^ suc d → c .tokens ≤ n → c .containers ≤ n → c .keys ≤ n → c .strays ≤ n

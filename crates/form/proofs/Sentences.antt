@@ -11,7 +11,7 @@ use Rattle.form.specs.Table.{table, entries, find, orPlain, after}
 use Rattle.form.specs.Ids.{OPEN, CLOSE, CHANNEL}
 use Rattle.form.specs.Refusals.{Eof, WideLookup, BadPlace, refusalAt, refusalValue, refusalValues}
 use Rattle.form.specs.Readers.{further, andThen, mapped, _followed-by_, _giving_, at}
-use Rattle.form.specs.Reading.{next, num, string, channel, rgb, payload, token}
+use Rattle.form.specs.Reading.{next, piece, num, string, channel, alphaEnd, withAlpha, ending, headed, judged, channels, rgb, payload, token}
 use Rattle.form.specs.Skipping.{stepped, passing, orStop, closed, turned, skipF, skipping, skipContainer}
 use Rattle.form.specs.Calls.{atStart, gives, refuses, within, ended, reads, optional, nexts, ifFound, peeks, landed, skips}
 use Rattle.form.specs.Spelling.{tag, body, spell, reason}
@@ -28,11 +28,28 @@ use Rattle.form.proofs.Specimens.{cursor, eof}
 -- a skip ends with the container that it began in; refused, it stays where its failing read began: after an id whose payload fails, and at an
 -- id cut short
 pub skips-hold : (skips skipContainer (0x03 ∷ 0x00 ∷ 0x04 ∷ 0x00 ∷ 0x04 ∷ 0x00 ∷ []) atStart ≡ gives tt (cursor 6))
-    × (skips skipContainer (0x0f ∷ 0x00 ∷ 0x02 ∷ 0x00 ∷ 0x61 ∷ []) atStart ≡ eof 2)
-    × (skips skipContainer (0x01 ∷ 0x00 ∷ 0x04 ∷ []) atStart ≡ eof 2)
+    × (skips skipContainer (0x0f ∷ 0x00 ∷ 0x02 ∷ 0x00 ∷ 0x61 ∷ []) atStart ≡ eof 2 1)
+    × (skips skipContainer (0x01 ∷ 0x00 ∷ 0x04 ∷ []) atStart ≡ eof 2 1)
 unfolding le kind table entries find orPlain after OPEN CLOSE CHANNEL refusalAt further andThen mapped _followed-by_ _giving_ next
     num string channel rgb payload at stepped passing orStop closed turned skipF skipping skipContainer within landed skips
 skips-hold = (refl, refl, refl)
+
+-- what is missing of a piece, not of a token: of an id, a text's length, the text, a colour's first 22 bytes, and its last six; a skip tells it
+-- of a number as it does of an id; and it is returned after the position
+pub missing-holds : (reads (at token) [] atStart ≡ eof 0 2)
+    × (reads (at token) (0x0f ∷ 0x00 ∷ 0x09 ∷ []) atStart ≡ eof 0 1)
+    × (reads (at token) (0x0f ∷ 0x00 ∷ 0x09 ∷ 0x00 ∷ 0x61 ∷ []) atStart ≡ eof 0 8)
+    × (reads (at token) (0x43 ∷ 0x02 ∷ 0x03 ∷ 0x00 ∷ []) atStart ≡ eof 0 20)
+    × (reads (at token)
+    (0x43 ∷ 0x02 ∷ 0x03 ∷ 0x00 ∷ 0x14 ∷ 0x00 ∷ 0x01 ∷ 0x00 ∷ 0x00 ∷ 0x00 ∷ 0x14 ∷ 0x00 ∷ 0x02 ∷ 0x00 ∷ 0x00 ∷ 0x00 ∷ 0x14 ∷ 0x00 ∷ 0x03 ∷ 0x00 ∷ 0x00 ∷ 0x00 ∷ 0x14 ∷ 0x00 ∷ 0x04 ∷ [])
+    atStart
+    ≡ eof 0 5)
+    × (skips skipContainer (0x14 ∷ 0x00 ∷ 0x01 ∷ 0x00 ∷ 0x00 ∷ 0x00 ∷ 0x01 ∷ 0x28 ∷ 0x14 ∷ 0x00 ∷ []) atStart ≡ eof 10 4)
+    × (refusalValues (Eof 10 4) ≡ 10 ∷ 4 ∷ [])
+unfolding le kind table entries find orPlain after OPEN CLOSE CHANNEL refusalAt refusalValues further andThen mapped _followed-by_ _giving_ next
+    piece num string channel alphaEnd withAlpha ending headed judged channels rgb payload token at stepped passing orStop closed turned skipF skipping skipContainer within
+    landed skips ended reads
+missing-holds = (refl, refl, refl, refl, refl, refl, refl)
 
 -- a peek moves nothing, and answers none where the read is refused; a cursor past the input is refused, by a `next_..` too
 pub calls-hold : (peeks (at token) (0x03 ∷ 0x00 ∷ []) atStart ≡ gives (some Open) atStart)
@@ -99,10 +116,10 @@ pub finds-hold : (finds 0x2802 (0x01 ∷ 0x28 ∷ 0x01 ∷ 0x00 ∷ 0x02 ∷ 0x2
     × (finds 0x2801 (0x01 ∷ 0x28 ∷ 0x01 ∷ 0x00 ∷ 0x0f ∷ 0x00 ∷ 0x09 ∷ 0x00 ∷ []) atStart ≡ gives (some 0) atStart)
     × (finds 0x2802 (0x03 ∷ 0x00 ∷ 0x02 ∷ 0x28 ∷ 0x01 ∷ 0x00 ∷ 0x04 ∷ 0x00 ∷ []) atStart ≡ gives none atStart)
     × (finds 0x2802 (0x03 ∷ 0x00 ∷ 0x02 ∷ 0x28 ∷ 0x01 ∷ 0x00 ∷ 0x04 ∷ 0x00 ∷ []) (cursor 2) ≡ gives (some 2) (cursor 2))
-    × (finds 0x2802 (0x01 ∷ 0x28 ∷ 0x01 ∷ 0x00 ∷ 0x0f ∷ 0x00 ∷ 0x09 ∷ 0x00 ∷ []) atStart ≡ refuses (Eof 4) atStart)
+    × (finds 0x2802 (0x01 ∷ 0x28 ∷ 0x01 ∷ 0x00 ∷ 0x0f ∷ 0x00 ∷ 0x09 ∷ 0x00 ∷ []) atStart ≡ refuses (Eof 4 9) atStart)
     × (finds 0x000e (0x0e ∷ 0x00 ∷ 0x01 ∷ 0x01 ∷ 0x00 ∷ []) atStart ≡ gives none atStart)
     × (finds 0x2801 (0x01 ∷ 0x28 ∷ []) atStart ≡ gives none atStart)
-    × (finds 0x2801 (0x01 ∷ 0x28 ∷ 0x01 ∷ []) atStart ≡ refuses (Eof 2) atStart)
+    × (finds 0x2801 (0x01 ∷ 0x28 ∷ 0x01 ∷ []) atStart ≡ refuses (Eof 2 1) atStart)
     × (finds 0x2801 [] (cursor 1) ≡ refuses (BadPlace 1) (cursor 1))
     × (finds 0x2801 (0x02 ∷ 0x28 ∷ 0x01 ∷ 0x28 ∷ 0x03 ∷ 0x00 ∷ 0x04 ∷ 0x00 ∷ []) atStart ≡ gives (some 2) atStart)
     × (finds 0x2802 (0x02 ∷ 0x28 ∷ 0x01 ∷ 0x28 ∷ 0x03 ∷ 0x00 ∷ 0x04 ∷ 0x00 ∷ []) atStart ≡ gives none atStart)

@@ -4,8 +4,8 @@ use native.Mathlib.Omega.{arith}
 use native.Mathlib.Nat.{add-zero}
 use mathlib.Core.Path.{_≡_, refl, sym, ap, _∙_}
 use mathlib.Core.Bool.{false}
-use mathlib.Core.List.{List}
-use lib.ListN.{length, drop, length-drop}
+use mathlib.Core.List.{List, []}
+use lib.ListN.{length, drop, length-drop, drop-of-length-le}
 use lib.Dec.{eqb}
 use borrow.Author.Tests.{lt-leb}
 use Rattle.form.specs.Table.{number, text, colour, after}
@@ -40,9 +40,12 @@ passing-on i s p {x} {m} e = go (payload (stepped i (after i)) (drop p s)) e
     go (found v k) q = let z : p + k ≡ m = cc in omega arith
     go (refused why) q = never (cc)
 
-past-end : (k d : ℕ) (s : List ℕ) (p : ℕ) → length s < p → skipF (suc k) d s p ≡ stopped tooShort p
+past-end : (k d : ℕ) (s : List ℕ) (p : ℕ) → length s < p → skipF (suc k) d s p ≡ stopped (tooShort 2) p
 unfolding skipF orStop
-past-end k d s p h = rw (num-short 2 s p (rw length-drop (omega arith)))
+past-end k d s p h =
+    let e : drop p s ≡ [] = drop-of-length-le s {i = p} (omega arith) in
+    let q : at (num 2) s p ≡ refused (tooShort 2) = num-short 2 s p (rw e (omega arith)) ∙ rw e in
+    rw q
 
 -- any count above that of the bytes that are left gives the same
 skip-same : (k m d : ℕ) (s : List ℕ) (p : ℕ) → length s < p + k → length s < p + m → skipF k d s p ≡ skipF m d s p

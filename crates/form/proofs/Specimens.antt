@@ -12,7 +12,7 @@ use Rattle.form.specs.Table.{table, entries, find, orPlain, after, reser
 use Rattle.form.specs.Ids.{OPEN, CLOSE, CHANNEL}
 use Rattle.form.specs.Refusals.{Eof, WideLookup, NoRoom, refusalAt}
 use Rattle.form.specs.Readers.{further, andThen, mapped, _followed-by_, _giving_, at}
-use Rattle.form.specs.Reading.{next, num, string, channel, rgb, payload, token}
+use Rattle.form.specs.Reading.{next, piece, num, string, rgb, payload, token}
 use Rattle.form.specs.Skipping.{stepped, passing, orStop, closed, turned, skipF, skipping, skipContainer, skipValue}
 use Rattle.form.specs.Calls.{Cursor, atStart, Call, gives, refuses, within, ended, reads, optional, nexts, landed, skips}
 use Rattle.form.specs.Spelling.{tag, body, spell, reason, writable, wide}
@@ -58,9 +58,9 @@ infix 15 _to_
 abbrev pub _to_ : Value → ℕ → Reply
 v to p = value (gives v (cursor p))
 
--- nothing read: the position, and the cursor where it was
-abbrev pub eof : {A : Type 0} → ℕ → Call A
-eof p = refuses (Eof p) (cursor p)
+-- nothing read: the position and how many bytes are missing, and the cursor where it was
+abbrev pub eof : {A : Type 0} → ℕ → ℕ → Call A
+eof p m = refuses (Eof p m) (cursor p)
 
 -- the worked example
 unfoldable pub save : List ℕ
@@ -80,23 +80,23 @@ saveNormal =
 unfoldable pub specimens : List Specimen
 specimens =
     (next-token [] ⇒ value-or-none (gives none (cursor 0)))
-    ∷ (read-token [] ⇒ value (eof 0))
-    ∷ (next-token (0x03 ∷ []) ⇒ value-or-none (eof 0))
-    ∷ (read-token (0x03 ∷ []) ⇒ value (eof 0))
+    ∷ (read-token [] ⇒ value (eof 0 2))
+    ∷ (next-token (0x03 ∷ []) ⇒ value-or-none (eof 0 1))
+    ∷ (read-token (0x03 ∷ []) ⇒ value (eof 0 1))
     ∷ (read-token (0x47 ∷ 0x0d ∷ []) ⇒ F64 (le (replicate 8 0)) to 2)
     ∷ (read-token (0x4f ∷ 0x0d ∷ 0x05 ∷ []) ⇒ F64 (le (0xfb ∷ replicate 7 0xff)) to 3)
     ∷ (read-token (0x55 ∷ 0x0d ∷ 0x01 ∷ replicate 6 0) ⇒ F64 (le (replicate 8 0xff)) to 9)
     ∷ (read-token (0x4e ∷ 0x0d ∷ replicate 7 0xff) ⇒ F64 (le (replicate 7 0xff)) to 9)
     ∷ (read-token (0x56 ∷ 0x0d ∷ []) ⇒ Id 3414 to 2)
-    ∷ (read-token (0x0f ∷ 0x00 ∷ 0x02 ∷ 0x00 ∷ 0x61 ∷ []) ⇒ value (eof 0))
+    ∷ (read-token (0x0f ∷ 0x00 ∷ 0x02 ∷ 0x00 ∷ 0x61 ∷ []) ⇒ value (eof 0 1))
     ∷ (read-id (0x0f ∷ 0x00 ∷ 0x02 ∷ 0x00 ∷ 0x61 ∷ []) ⇒ number (gives 0x000f (cursor 2)))
-    ∷ (skip-value-after 0x000f 2 (0x0f ∷ 0x00 ∷ 0x02 ∷ 0x00 ∷ 0x61 ∷ []) ⇒ skip (eof 2))
+    ∷ (skip-value-after 0x000f 2 (0x0f ∷ 0x00 ∷ 0x02 ∷ 0x00 ∷ 0x61 ∷ []) ⇒ skip (eof 2 1))
     ∷ (normalises 5 (0x3f ∷ 0x0d ∷ 0xff ∷ 0xff ∷ 0xff ∷ 0x00 ∷ []) ⇒ output (written (0x41 ∷ 0x0d ∷ 0xff ∷ 0xff ∷ 0xff ∷ [])))
     ∷ (read-token (0x3f ∷ 0x0d ∷ 0x00 ∷ 0x00 ∷ 0x00 ∷ 0x01 ∷ []) ⇒ Lookup 16777216 to 6)
     ∷ (writes 99 (Lookup 16777216) ⇒ output (unwritten (WideLookup 0)))
     ∷ (normalises 99 (0x3f ∷ 0x0d ∷ 0x00 ∷ 0x00 ∷ 0x00 ∷ 0x01 ∷ []) ⇒ output (unwritten (WideLookup 0)))
     ∷ (normalises 3 (0x0e ∷ 0x00 ∷ 0x02 ∷ []) ⇒ output (written (0x0e ∷ 0x00 ∷ 0x01 ∷ [])))
-    ∷ (read-token (0x43 ∷ 0x02 ∷ 0x04 ∷ 0x00 ∷ []) ⇒ value (eof 0))
+    ∷ (read-token (0x43 ∷ 0x02 ∷ 0x04 ∷ 0x00 ∷ []) ⇒ value (eof 0 20))
     ∷ (skip-container (0x43 ∷ 0x02 ∷ 0x04 ∷ 0x00 ∷ []) ⇒ skip (gives tt (cursor 4)))
     ∷ (normalises 37 save ⇒ output (written saveNormal))
     ∷ (normalises 36 save ⇒ output (unwritten (NoRoom 37)))
@@ -105,7 +105,7 @@ specimens =
 -- the definitions answer each specimen as FORMAT.md says
 pub specimens-hold : map (λ (s : Specimen). answer (s .ask)) specimens ≡ map (λ (s : Specimen). s .reply) specimens
 unfolding answer specimens save saveNormal _⇒_ le leBytes kind table entries find orPlain after OPEN CLOSE CHANNEL refusalAt further
-    andThen mapped _followed-by_ _giving_ next num string channel rgb payload token at within ended reads optional nexts landed skips tag body spell
+    andThen mapped _followed-by_ _giving_ next piece num string rgb payload token at within ended reads optional nexts landed skips tag body spell
     reserved reason stepped passing orStop closed turned skipF skipping skipContainer skipValue step walkF walk values tokens spellAll normal fitted write
     firstRefusal unless normalise
 specimens-hold = refl

@@ -18,12 +18,12 @@ use Rattle.form.specs.Table.{Payload, number, text, colour, table, entri
 use Rattle.form.specs.Ids.{OPEN, CLOSE, CHANNEL}
 use Rattle.form.specs.Refusals.{Fault}
 use Rattle.form.specs.Readers.{Reader, found, further, andThen, mapped, _followed-by_, _giving_, give, refuse}
-use Rattle.form.specs.Reading.{next, num, string, Channel, channel, withAlpha, ending, headed, judged, rgb, payload, token}
+use Rattle.form.specs.Reading.{next, piece, num, string, Channel, channel, alphaEnd, withAlpha, ending, headed, judged, channels, rgb, payload, token}
 use Rattle.form.specs.Spelling.{tag, spelledChannel, spelledAlpha, bit, body, spell, reason, writable, wide}
 use Rattle.form.proofs.Never.{never}
 use Rattle.form.proofs.LittleEndian.{number-same, drop-bytes}
 use Rattle.form.proofs.Lookups.{plain-after}
-use Rattle.form.proofs.Found.{All, all-mapped, all-then, all-weaken, Next, next-found}
+use Rattle.form.proofs.Found.{All, all-mapped, all-then, all-weaken, all-piece, Next, next-found, next-there}
 use Rattle.form.proofs.Elsewhere.{both}
 use Rattle.form.proofs.Sound.{_&_}
 
@@ -93,6 +93,11 @@ reads-refuse : {A : Type 0} {Q : A → List ℕ → Type 0} (why : Fault) → Re
 unfolding refuse
 reads-refuse why = record { of = λ s b. tt }
 
+reads-piece : {A : Type 0} {P : A → List ℕ → Type 0} (n : ℕ) {f : Reader A} → Reads P f → Reads P (piece n f)
+reads-piece {A} {P} n {f} h = record {
+  of = λ s b. all-piece (Front P s) n f s (h .of s b);
+}
+
 reads-num : (w : ℕ) → Reads (λ x t. leBytes w x ≡ t) (num w)
 unfolding num _giving_
 reads-num w = record {
@@ -139,11 +144,12 @@ module _ (o : ℕ) (r g b : Channel) (h : headed o (r .tag) (g .tag) (b .tag) �
       rw (eqb-true o OPEN (z .0), eqb-true (r .tag) CHANNEL (z .1), eqb-true (g .tag) CHANNEL (y .1), eqb-true (b .tag) CHANNEL (x .1))
 
   reads-alpha : (e : ℕ) → e ≡ CHANNEL → Reads (λ v t. Coloured v (on (leBytes 2 e ++ t))) (withAlpha (r .value) (g .value) (b .value))
-  unfolding withAlpha spell tag body leBytes spelledChannel spelledAlpha wide kind
+  unfolding withAlpha alphaEnd spell tag body leBytes spelledChannel spelledAlpha wide kind
   reads-alpha e p =
-      reads-then (leBytes 4) (reads-num 4) (λ a.
+      reads-piece 6
+      (reads-then (leBytes 4) (reads-num 4) (λ a.
       reads-then (leBytes 2) (reads-num 2) (λ c.
-      reads-pick (eqb c CLOSE) (λ q. reads-give _ (rw (on-right, p, eqb-true c CLOSE q) (refl, refl))) (reads-refuse _)))
+      reads-pick (eqb c CLOSE) (λ q. reads-give _ (rw (on-right, p, eqb-true c CLOSE q) (refl, refl))) (reads-refuse _))))
 
   reads-ending : (e : ℕ) → Reads (λ v t. Coloured v (on (leBytes 2 e ++ t))) (ending e (r .value) (g .value) (b .value))
   unfolding ending spell tag body leBytes spelledChannel spelledAlpha wide kind
@@ -152,20 +158,17 @@ module _ (o : ℕ) (r g b : Channel) (h : headed o (r .tag) (g .tag) (b .tag) �
       (reads-pick (eqb e CHANNEL) (λ q. reads-alpha e (eqb-true e CHANNEL q)) (reads-refuse _))
 
 reads-rgb : Reads Coloured rgb
-unfolding rgb judged
+unfolding rgb channels judged
 reads-rgb =
-    reads-then (leBytes 2) (reads-num 2) (λ o.
+    reads-piece 22
+    (reads-then (leBytes 2) (reads-num 2) (λ o.
     reads-then spelt reads-channel (λ r.
     reads-then spelt reads-channel (λ g.
     reads-then spelt reads-channel (λ b.
     reads-then (leBytes 2) (reads-num 2) (λ e.
-    reads-pick (headed o (r .tag) (g .tag) (b .tag)) (λ h. reads-ending o r g b h e) (reads-refuse _))))))
+    reads-pick (headed o (r .tag) (g .tag) (b .tag)) (λ h. reads-ending o r g b h e) (reads-refuse _)))))))
 
 -- ---- a token
-
-next-there : (n : ℕ) (s : List ℕ) → n ≤ length s → next n s ≡ found (take n s) n
-unfolding next
-next-there n s h = rw (le-leb n (length s) h)
 
 num-there : (w : ℕ) (s : List ℕ) → w ≤ length s → num w s ≡ found (le (take w s)) w
 unfolding num _giving_ mapped

@@ -3,9 +3,10 @@
 use Prim.Native.Nat.{ℕ}
 use mathlib.Core.Path.{_≡_, sym, ap, _∙_}
 use mathlib.Core.List.{List, [], _∷_}
+use lib.ListN.{getD}
 use lib.Dec.{eqb}
 use Rattle.form.specs.Numbers.{pick}
-use Rattle.form.specs.Refusals.{Refusal, refusalNumber, refusalValue}
+use Rattle.form.specs.Refusals.{Refusal, refusalNumber, refusalValues, refusalValue}
 use Rattle.form.specs.Writing.{Output, Outcome, Follows}
 
 -- promises that are plain equations: a position, a kind, the contents of a part
@@ -20,6 +21,10 @@ same answer back h r r′ p q = sym (h r) ∙ ap back (p ∙ sym q) ∙ h r′
 abbrev pub byNumber : {A : Type 0} → List (ℕ × (ℕ → A)) → (ℕ → A) → Refusal → A
 byNumber [] other r = other (refusalValue r)
 byNumber ((k, f) ∷ l) other r = pick (eqb (refusalNumber r) k) (f (refusalValue r)) (byNumber l other r)
+
+-- the same, where Eof is among them: it has two values
+abbrev pub eofOrNumber : {A : Type 0} → (ℕ → ℕ → A) → List (ℕ × (ℕ → A)) → (ℕ → A) → Refusal → A
+eofOrNumber f l other r = pick (eqb (refusalNumber r) 1) (f (refusalValue r) (getD (refusalValues r) 1 0)) (byNumber l other r)
 
 -- promises of what a call that writes answers, and of the output that it leaves
 pub follows-one : {A : Type 0} (answer : A → Outcome) (back : Outcome → A) → ((r : A) → back (answer r) ≡ r) → (o : Output) (d : List ℕ)

@@ -72,7 +72,7 @@ endLine n c = line (ascii "end") (decimal n ∷ countWords c)
 
 -- the word for a refusal. No other is shown, and the others have none
 unfoldable pub refusalWord : Refusal → String
-refusalWord (Eof p) = "eof"
+refusalWord (Eof p m) = "eof"
 refusalWord (InvalidRgb p) = "rgb"
 refusalWord (LongString p) = ""
 refusalWord (WideLookup p) = "wide"

@@ -1,5 +1,5 @@
 -- Reading: the next bytes, a number, a text, a colour, a token.
-use Prim.Native.Nat.{ℕ}
+use Prim.Native.Nat.{ℕ, _-_}
 use mathlib.Core.Bool.{Bool, _&&_}
 use mathlib.Core.Option.{none, some}
 use mathlib.Core.List.{List}
@@ -10,11 +10,15 @@ use Rattle.form.specs.Values.{Value, Rgb}
 use Rattle.form.specs.Table.{Payload, number, text, colour, after}
 use Rattle.form.specs.Ids.{OPEN, CLOSE, CHANNEL}
 use Rattle.form.specs.Refusals.{tooShort, badColour}
-use Rattle.form.specs.Readers.{found, refused, Reader, _followed-by_, _giving_, give, refuse}
+use Rattle.form.specs.Readers.{found, refused, Reader, andThen, _followed-by_, _giving_, give, refuse}
 
 -- the next n bytes
 unfoldable pub next : ℕ → Reader (List ℕ)
-next n s = pick (leb n (length s)) (found (take n s) n) (refused tooShort)
+next n s = pick (leb n (length s)) (found (take n s) n) (refused (tooShort (n - length s)))
+
+-- the next n bytes are asked for at once, and read by f
+unfoldable pub piece : {A : Type 0} → ℕ → Reader A → Reader A
+piece n f s = andThen (next n s) (λ _ _. f s)
 
 -- the number that the next w bytes spell
 unfoldable pub num : ℕ → Reader ℕ
@@ -33,9 +37,13 @@ unfoldable pub channel : Reader Channel
 channel = num 2 followed-by (λ i. num 4 giving (λ n. record { tag = i; value = n }))
 
 -- a colour's alpha and its end
-unfoldable pub withAlpha : ℕ → ℕ → ℕ → Reader Value
-withAlpha r g b =
+unfoldable pub alphaEnd : ℕ → ℕ → ℕ → Reader Value
+alphaEnd r g b =
     num 4 followed-by (λ a. num 2 followed-by (λ e. pick (eqb e CLOSE) (give (Rgb r g b (some a))) (refuse badColour)))
+
+-- they are one piece of six bytes
+unfoldable pub withAlpha : ℕ → ℕ → ℕ → Reader Value
+withAlpha r g b = piece 6 (alphaEnd r g b)
 
 -- what follows the third channel, by the id there
 unfoldable pub ending : ℕ → ℕ → ℕ → ℕ → Reader Value
@@ -50,9 +58,13 @@ headed o r g b = eqb o OPEN && eqb r CHANNEL && eqb g CHANNEL && eqb b CHANNEL
 unfoldable pub judged : ℕ → Channel → Channel → Channel → ℕ → Reader Value
 judged o r g b e = pick (headed o (r .tag) (g .tag) (b .tag)) (ending e (r .value) (g .value) (b .value)) (refuse badColour)
 
--- a colour: 22 bytes are taken before anything is judged
+-- a colour's five ids and three numbers
+unfoldable pub channels : Reader Value
+channels = num 2 followed-by (λ o. channel followed-by (λ r. channel followed-by (λ g. channel followed-by (λ b. num 2 followed-by judged o r g b))))
+
+-- a colour: they are one piece of 22 bytes, taken before anything is judged
 unfoldable pub rgb : Reader Value
-rgb = num 2 followed-by (λ o. channel followed-by (λ r. channel followed-by (λ g. channel followed-by (λ b. num 2 followed-by judged o r g b))))
+rgb = piece 22 channels
 
 unfoldable pub payload : Payload → Reader Value
 payload (number w f) = num w giving f

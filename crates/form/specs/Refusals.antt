@@ -6,8 +6,10 @@ use lib.ListN.{getD}
 
 -- each with what is returned with it
 pub data Refusal : Type 0 where
+  -- the position, and how many bytes are missing there
+  Eof : ℕ → ℕ → Refusal
   -- the position
-  Eof InvalidRgb : ℕ → Refusal
+  InvalidRgb : ℕ → Refusal
   -- the token's position; for the writer 0
   LongString WideLookup ReservedId : ℕ → Refusal
   -- the bytes needed
@@ -25,7 +27,7 @@ pub data Refusal : Type 0 where
 
 -- its number there
 unfoldable pub refusalNumber : Refusal → ℕ
-refusalNumber (Eof p) = 1
+refusalNumber (Eof p m) = 1
 refusalNumber (InvalidRgb p) = 2
 refusalNumber (LongString p) = 31
 refusalNumber (WideLookup p) = 32
@@ -40,7 +42,7 @@ refusalNumber BadIndex = 11
 
 -- what is returned with it
 unfoldable pub refusalValues : Refusal → List ℕ
-refusalValues (Eof p) = p ∷ []
+refusalValues (Eof p m) = p ∷ m ∷ []
 refusalValues (InvalidRgb p) = p ∷ []
 refusalValues (LongString p) = p ∷ []
 refusalValues (WideLookup p) = p ∷ []
@@ -59,7 +61,7 @@ refusalValue r = getD (refusalValues r) 0 0
 
 -- too few bytes
 unfoldable pub isEof : Refusal → Bool
-isEof (Eof p) = true
+isEof (Eof p m) = true
 isEof (InvalidRgb p) = false
 isEof (LongString p) = false
 isEof (WideLookup p) = false
@@ -72,11 +74,12 @@ isEof (TooLong n) = false
 isEof (ListFull n) = false
 isEof BadIndex = false
 
--- what is wrong with bytes, wherever they stand: too few of them, or a colour that is none
+-- what is wrong with bytes, wherever they stand: so many are missing, or a colour is none
 pub data Fault : Type 0 where
-  tooShort badColour : Fault
+  tooShort : ℕ → Fault
+  badColour : Fault
 
 -- the refusal of a fault, at a position
 unfoldable pub refusalAt : ℕ → Fault → Refusal
-refusalAt p tooShort = Eof p
+refusalAt p (tooShort m) = Eof p m
 refusalAt p badColour = InvalidRgb p

@@ -41,7 +41,7 @@ turned i d p go = pick (eqb i OPEN) (go (d + 1)) (pick (eqb i CLOSE) (closed d p
 
 -- from place p at depth d, by a count that is large enough: the length plus one is
 unfoldable pub skipF : ℕ → ℕ → List ℕ → ℕ → Skip
-skipF zero d s p = stopped tooShort p
+skipF zero d s p = stopped (tooShort 2) p
 skipF (suc k) d s p =
     orStop p (at (num 2) s p) (λ i n. orStop n (passing i s n) (λ _ m. turned i d m (λ c. skipF k c s m)))
 

@@ -9,7 +9,7 @@ use Rattle.form.specs.Refusals.{Fault, tooShort, badColour, Refusal, refusalAt,
 use Rattle.form.specs.Readers.{Answer, found, refused, at}
 use Rattle.form.specs.Reading.{token}
 use Rattle.form.proofs.Never.{never}
-use Rattle.form.proofs.Unique.{byNumber}
+use Rattle.form.proofs.Unique.{eofOrNumber}
 use Rattle.payload.specs.declared.answers.LexError.{LexError}
 use Rattle.payload.specs.declared.answers.LexError.the-variants.{Eof, InvalidRgb}
 use Rattle.payload.specs.Answers.{faultOf}
@@ -20,11 +20,11 @@ use Rattle.keys.specs.Seeking.{FirstAt, Nexts, NextKey}
 -- the answer for a refusal
 abbrev refusedBack : Option Refusal → Next
 refusedBack none = End
-refusedBack (some r) = byNumber ((1, Refused Eof) ∷ []) (Refused InvalidRgb) r
+refusedBack (some r) = eofOrNumber (λ p m. Refused (Eof m) p) [] (Refused InvalidRgb) r
 
 refused-back : (e : LexError) (q : ℕ) → refusedBack (some (refusalAt q (faultOf e))) ≡ Refused e q
 unfolding refusalAt refusalNumber refusalValue refusalValues
-refused-back Eof q = refl
+refused-back (Eof m) q = refl
 refused-back InvalidRgb q = refl
 
 -- where a reading ends

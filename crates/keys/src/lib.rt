@@ -65,7 +65,7 @@ fn fixed(bytes: &[u8], at: usize, width: usize) -> Passed
 {
     let part = payload::read_bytes(bytes, at, width);
     let ReadString::Got(_, next) = part else {
-        return Passed::Refused(part.refusal());
+        return Passed::Refused(LexError::Eof(part.missing()));
     };
     Passed::Other(next)
 }
@@ -75,7 +75,7 @@ fn string(bytes: &[u8], at: usize) -> Passed
 {
     let text = payload::read_string(bytes, at);
     let ReadString::Got(_, next) = text else {
-        return Passed::Refused(text.refusal());
+        return Passed::Refused(LexError::Eof(text.missing()));
     };
     Passed::Other(next)
 }
@@ -145,7 +145,7 @@ fn pass(bytes: &[u8], at: usize) -> Passed
 {
     let read = payload::read_id(bytes, at);
     let ReadId::Got(id, next) = read else {
-        return Passed::Refused(read.refusal());
+        return Passed::Refused(LexError::Eof(read.missing()));
     };
     by_id(bytes, next, id)
 }

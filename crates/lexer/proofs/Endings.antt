@@ -57,7 +57,7 @@ module _ (s : List ℕ) (c : Cursor) where
 -- a fault is no bad place
 no-place : (p n : ℕ) (e : Fault) → F.refusalAt p e ≡ F.BadPlace n → ⊥
 unfolding F.refusalAt
-no-place p n tooShort q = never (cc)
+no-place p n (tooShort m) q = never (cc)
 no-place p n badColour q = never (cc)
 
 -- a token begins inside the bytes

@@ -9,7 +9,7 @@ use lib.IntN.{ℤ}
 use Rattle.form.specs.Refusals as F
 use Rattle.form.specs.Values.{Value}
 use Rattle.form.specs.Calls.{Cursor, Call, gives, refuses}
-use Rattle.form.proofs.Unique.{same, byNumber}
+use Rattle.form.proofs.Unique.{same, eofOrNumber}
 use Rattle.payload.specs.Answers.{colourOf}
 use Rattle.payload.specs.declared.answers.LexError.{LexError}
 use Rattle.payload.specs.declared.answers.LexError.the-variants.{Eof, InvalidRgb}
@@ -65,14 +65,14 @@ abbrev lexedAt : LexError → ℕ → Refusal
 lexedAt k p = Lexed (record { position = p; kind = k })
 
 abbrev refusalBack : F.Refusal → Refusal
-refusalBack r = byNumber ((1, lexedAt Eof) ∷ (2, lexedAt InvalidRgb) ∷ []) BadPlace r
+refusalBack r = eofOrNumber (λ p m. lexedAt (Eof m) p) ((2, lexedAt InvalidRgb) ∷ []) BadPlace r
 
 refusal-back : (e : Refusal) → refusalBack (refusalOf e) ≡ e
 unfolding refusalOf F.refusalAt F.refusalNumber F.refusalValue F.refusalValues
 refusal-back (Lexed e) = go (e .position) (e .kind)
   where
     go : (p : ℕ) (k : LexError) → refusalBack (refusalOf (Lexed (record { position = p; kind = k }))) ≡ Lexed (record { position = p; kind = k })
-    go p Eof = refl
+    go p (Eof m) = refl
     go p InvalidRgb = refl
 refusal-back (BadPlace p) = refl
 

@@ -5,6 +5,7 @@ ghost use Rattle.lexer.specs.Calls.{cursorOf, bytesAt, remainderOf, stri
 use crate::Lexer;
 use crate::Place;
 use crate::answers::LexString;
+use payload::LexError;
 use payload::ReadString;
 use payload::Text;
 
@@ -34,7 +35,7 @@ impl Lexer {
             Place::Inside => {
                 let r = payload::read_bytes(bytes, at, count);
                 let ReadString::Got(x, next) = r else {
-                    return LexString::Refused(self.located(r.refusal()));
+                    return LexString::Refused(self.located(LexError::Eof(r.missing())));
                 };
                 LexString::Got(x, self.moved(next))
             }

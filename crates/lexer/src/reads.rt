@@ -18,6 +18,7 @@ use crate::answers::LexU64;
 use crate::answers::NextId;
 use crate::answers::PeekId;
 use crate::answers::Refusal;
+use payload::LexError;
 use payload::ReadBool;
 use payload::ReadI32;
 use payload::ReadI64;
@@ -37,7 +38,7 @@ impl Lexer {
         let at = self.at;
         let r = payload::read_id(bytes, at);
         let ReadId::Got(x, next) = r else {
-            return LexId::Refused(self.refused(bytes, r.refusal()));
+            return LexId::Refused(self.refused(bytes, LexError::Eof(r.missing())));
         };
         LexId::Got(x, self.moved(next))
     }
@@ -81,7 +82,7 @@ impl Lexer {
         let at = self.at;
         let r = payload::read_string(bytes, at);
         let ReadString::Got(x, next) = r else {
-            return LexString::Refused(self.refused(bytes, r.refusal()));
+            return LexString::Refused(self.refused(bytes, LexError::Eof(r.missing())));
         };
         LexString::Got(x, self.moved(next))
     }
@@ -93,7 +94,7 @@ impl Lexer {
         let at = self.at;
         let r = payload::read_bool(bytes, at);
         let ReadBool::Got(x, next) = r else {
-            return LexBool::Refused(self.refused(bytes, r.refusal()));
+            return LexBool::Refused(self.refused(bytes, LexError::Eof(r.missing())));
         };
         LexBool::Got(x, self.moved(next))
     }
@@ -105,7 +106,7 @@ impl Lexer {
         let at = self.at;
         let r = payload::read_lookup_u8(bytes, at);
         let ReadU8::Got(x, next) = r else {
-            return LexU8::Refused(self.refused(bytes, r.refusal()));
+            return LexU8::Refused(self.refused(bytes, LexError::Eof(r.missing())));
         };
         LexU8::Got(x, self.moved(next))
     }
@@ -117,7 +118,7 @@ impl Lexer {
         let at = self.at;
         let r = payload::read_lookup_u16(bytes, at);
         let ReadU16::Got(x, next) = r else {
-            return LexU16::Refused(self.refused(bytes, r.refusal()));
+            return LexU16::Refused(self.refused(bytes, LexError::Eof(r.missing())));
         };
         LexU16::Got(x, self.moved(next))
     }
@@ -129,7 +130,7 @@ impl Lexer {
         let at = self.at;
         let r = payload::read_lookup_u24(bytes, at);
         let ReadU32::Got(x, next) = r else {
-            return LexU32::Refused(self.refused(bytes, r.refusal()));
+            return LexU32::Refused(self.refused(bytes, LexError::Eof(r.missing())));
         };
         LexU32::Got(x, self.moved(next))
     }
@@ -148,7 +149,7 @@ impl Lexer {
         let at = self.at;
         let r = payload::read_u32(bytes, at);
         let ReadU32::Got(x, next) = r else {
-            return LexU32::Refused(self.refused(bytes, r.refusal()));
+            return LexU32::Refused(self.refused(bytes, LexError::Eof(r.missing())));
         };
         LexU32::Got(x, self.moved(next))
     }
@@ -160,7 +161,7 @@ impl Lexer {
         let at = self.at;
         let r = payload::read_u64(bytes, at);
         let ReadU64::Got(x, next) = r else {
-            return LexU64::Refused(self.refused(bytes, r.refusal()));
+            return LexU64::Refused(self.refused(bytes, LexError::Eof(r.missing())));
         };
         LexU64::Got(x, self.moved(next))
     }
@@ -172,7 +173,7 @@ impl Lexer {
         let at = self.at;
         let r = payload::read_i64(bytes, at);
         let ReadI64::Got(x, next) = r else {
-            return LexI64::Refused(self.refused(bytes, r.refusal()));
+            return LexI64::Refused(self.refused(bytes, LexError::Eof(r.missing())));
         };
         LexI64::Got(x, self.moved(next))
     }
@@ -184,7 +185,7 @@ impl Lexer {
         let at = self.at;
         let r = payload::read_i32(bytes, at);
         let ReadI32::Got(x, next) = r else {
-            return LexI32::Refused(self.refused(bytes, r.refusal()));
+            return LexI32::Refused(self.refused(bytes, LexError::Eof(r.missing())));
         };
         LexI32::Got(x, self.moved(next))
     }

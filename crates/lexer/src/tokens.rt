@@ -17,7 +17,7 @@ impl Lexer {
     {
         let at = self.at;
         let r = token::read_token(bytes, at);
-        let ReadToken::Got(x, next) = r else {
+        let ReadToken::Got(next, x) = r else {
             return LexToken::Refused(self.refused(bytes, r.refusal()));
         };
         LexToken::Got(x, self.moved(next))

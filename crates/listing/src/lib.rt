@@ -33,7 +33,7 @@ fn put_refusal(out: &mut [u8], at: usize, e: LexError, p: usize) -> usize
     ensures { λ r. ⌜ Put (now (out .entry)) at (errorLine (refusalAt p (faultOf e))) (now (out .exit)) r ⌝ }
 {
     match e {
-        LexError::Eof => put_error(out, at, b"eof", p as u64),
+        LexError::Eof(_) => put_error(out, at, b"eof", p as u64),
         LexError::InvalidRgb => put_error(out, at, b"rgb", p as u64),
     }
 }
@@ -71,7 +71,7 @@ fn put_listing(out: &mut [u8], bytes: &[u8]) -> usize
     let mut tally = Tally::new();
     while at < bytes.len() {
         let r = token::read_token(bytes, at);
-        let ReadToken::Got(t, next) = r else {
+        let ReadToken::Got(next, t) = r else {
             return put_refusal(out, end, r.refusal(), at);
         };
         end = line::put_line(out, end, bytes, at, t);

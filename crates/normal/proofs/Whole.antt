@@ -22,7 +22,7 @@ use Rattle.normal.specs.Lines.{orLine, shown}
 -- the line of a refusal of so short a save
 line-short : (n : ℕ) → n ≤ 8192 → (r : Refusal) → OfSave n r → length (errorLine r) ≤ 17
 unfolding refusalValue refusalValues
-line-short n h (Eof p) o = error-length 4 (Eof p) (omega arith)
+line-short n h (Eof p m) o = error-length 4 (Eof p m) (omega arith)
 line-short n h (InvalidRgb p) o = error-length 4 (InvalidRgb p) (omega arith)
 line-short n h (LongString p) o = absurd o
 line-short n h (WideLookup p) o = error-length 4 (WideLookup p) (omega arith)

@@ -28,7 +28,7 @@ fn form(bytes: &[u8], out: &mut [u8]) -> usize
 {
     match normaliser::normalise(bytes, out) {
         Normalised::Written(n) => n,
-        Normalised::Eof(p) => put_error(out, 0, b"eof", p as u64),
+        Normalised::Eof(p, _) => put_error(out, 0, b"eof", p as u64),
         Normalised::InvalidRgb(p) => put_error(out, 0, b"rgb", p as u64),
         Normalised::WideLookup(p) => put_wide(out, p),
         // Neither comes: there is room for every normal form.

@@ -26,7 +26,7 @@ use Rattle.normaliser.proofs.Passing.{unbounded-none}
 -- the refusals among the answers
 pub normalised-refused : (r : Normalised) → OneOf (1 ∷ 2 ∷ 3 ∷ 4 ∷ 5 ∷ []) (tagOf N.the-type r) → (n : ℕ) → normalisedOutcome r ≡ wrote n → ⊥
 normalised-refused (Written m) q n e = ⊎-elim (λ h. omega arith) (⊎-elim (λ h. omega arith) (⊎-elim (λ h. omega arith) (⊎-elim (λ h. omega arith) (λ h. omega arith)))) q
-normalised-refused (Eof p) q n e = never (cc)
+normalised-refused (Eof p m) q n e = never (cc)
 normalised-refused (InvalidRgb p) q n e = never (cc)
 normalised-refused (WideLookup p) q n e = never (cc)
 normalised-refused (NoRoom m) q n e = never (cc)
@@ -34,7 +34,7 @@ normalised-refused (TooLong m) q n e = never (cc)
 
 pub shortened-refused : (r : Shortened) → OneOf (1 ∷ 2 ∷ 3 ∷ 4 ∷ []) (tagOf H.the-type r) → (n : ℕ) → shortenedOutcome r ≡ wrote n → ⊥
 shortened-refused (S.Written m) q n e = ⊎-elim (λ h. omega arith) (⊎-elim (λ h. omega arith) (⊎-elim (λ h. omega arith) (λ h. omega arith))) q
-shortened-refused (S.Eof p) q n e = never (cc)
+shortened-refused (S.Eof p m) q n e = never (cc)
 shortened-refused (S.InvalidRgb p) q n e = never (cc)
 shortened-refused (S.NoRoom m) q n e = never (cc)
 shortened-refused (S.TooLong m) q n e = never (cc)

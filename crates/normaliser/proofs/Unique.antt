@@ -5,7 +5,7 @@ use Prim.Native.Nat.{ℕ}
 use lib.ListN.{length}
 use Rattle.form.specs.Refusals.{refusalNumber, refusalValue, refusalValues}
 use Rattle.form.specs.Writing.{Outcome, wrote, declined, Follows, normalise, shorten}
-use Rattle.form.proofs.Unique.{byNumber, follows-one}
+use Rattle.form.proofs.Unique.{eofOrNumber, follows-one}
 use Rattle.normaliser.specs.declared.Normalised.{Normalised}
 use Rattle.normaliser.specs.declared.Normalised.the-variants.{Written, Eof, InvalidRgb, WideLookup, NoRoom, TooLong}
 use Rattle.normaliser.specs.declared.shortening.Shortened.{Shortened}
@@ -15,12 +15,12 @@ use Rattle.normaliser.specs.Answers.{normalisedOutcome, shortenedOutcome
 -- the normaliser answers no other refusal
 abbrev normalisedBack : Outcome → Normalised
 normalisedBack (wrote n) = Written n
-normalisedBack (declined r) = byNumber ((1, Eof) ∷ (2, InvalidRgb) ∷ (32, WideLookup) ∷ (4, NoRoom) ∷ []) TooLong r
+normalisedBack (declined r) = eofOrNumber Eof ((2, InvalidRgb) ∷ (32, WideLookup) ∷ (4, NoRoom) ∷ []) TooLong r
 
 normalised-back : (r : Normalised) → normalisedBack (normalisedOutcome r) ≡ r
 unfolding refusalNumber refusalValue refusalValues
 normalised-back (Written n) = refl
-normalised-back (Eof p) = refl
+normalised-back (Eof p m) = refl
 normalised-back (InvalidRgb p) = refl
 normalised-back (WideLookup p) = refl
 normalised-back (NoRoom n) = refl
@@ -33,12 +33,12 @@ normalise-one s d = follows-one normalisedOutcome normalisedBack normalised-back
 -- and so it is where a save is shortened
 abbrev shortenedBack : Outcome → Shortened
 shortenedBack (wrote n) = S.Written n
-shortenedBack (declined r) = byNumber ((1, S.Eof) ∷ (2, S.InvalidRgb) ∷ (4, S.NoRoom) ∷ []) S.TooLong r
+shortenedBack (declined r) = eofOrNumber S.Eof ((2, S.InvalidRgb) ∷ (4, S.NoRoom) ∷ []) S.TooLong r
 
 shortened-back : (r : Shortened) → shortenedBack (shortenedOutcome r) ≡ r
 unfolding refusalNumber refusalValue refusalValues
 shortened-back (S.Written n) = refl
-shortened-back (S.Eof p) = refl
+shortened-back (S.Eof p m) = refl
 shortened-back (S.InvalidRgb p) = refl
 shortened-back (S.NoRoom n) = refl
 shortened-back (S.TooLong n) = refl

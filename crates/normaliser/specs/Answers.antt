@@ -8,7 +8,7 @@ use Rattle.normaliser.specs.declared.shortening.Shortened.the-variants a
 
 abbrev pub normalisedOutcome : Normalised → Outcome
 normalisedOutcome (Written n) = wrote n
-normalisedOutcome (Eof p) = declined (R.Eof p)
+normalisedOutcome (Eof p m) = declined (R.Eof p m)
 normalisedOutcome (InvalidRgb p) = declined (R.InvalidRgb p)
 normalisedOutcome (WideLookup p) = declined (R.WideLookup p)
 normalisedOutcome (NoRoom n) = declined (R.NoRoom n)
@@ -16,7 +16,7 @@ normalisedOutcome (TooLong n) = declined (R.TooLong n)
 
 abbrev pub shortenedOutcome : Shortened → Outcome
 shortenedOutcome (S.Written n) = wrote n
-shortenedOutcome (S.Eof p) = declined (R.Eof p)
+shortenedOutcome (S.Eof p m) = declined (R.Eof p m)
 shortenedOutcome (S.InvalidRgb p) = declined (R.InvalidRgb p)
 shortenedOutcome (S.NoRoom n) = declined (R.NoRoom n)
 shortenedOutcome (S.TooLong n) = declined (R.TooLong n)

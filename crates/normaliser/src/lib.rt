@@ -23,7 +23,7 @@ use writer::Wrote;
 
 pub enum Normalised {
     Written(usize),
-    Eof(usize),
+    Eof(usize, usize),
     InvalidRgb(usize),
     WideLookup(usize),
     NoRoom(usize),
@@ -35,7 +35,7 @@ fn refused(e: LexError, at: usize) -> Normalised
     ensures { λ r. ⌜ normalisedOutcome r ≡ declined (refusalAt at (faultOf e)) ⌝ }
 {
     match e {
-        LexError::Eof => Normalised::Eof(at),
+        LexError::Eof(missing) => Normalised::Eof(at, missing),
         LexError::InvalidRgb => Normalised::InvalidRgb(at),
     }
 }
@@ -59,7 +59,7 @@ fn respell(bytes: &[u8], at: usize, out: &mut [u8], need: usize) -> Respelled
     ensures { λ r. ⌜ Respells (now (bytes .entry)) at (now (out .entry)) need (now (out .exit)) r ⌝ }
 {
     let r = token::read_token(bytes, at);
-    let ReadToken::Got(t, next) = r else {
+    let ReadToken::Got(next, t) = r else {
         return Respelled::Refused(refused(r.refusal(), at));
     };
     let to = place(need, out.len());

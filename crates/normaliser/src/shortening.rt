@@ -17,7 +17,7 @@ use writer::Wrote;
 
 pub enum Shortened {
     Written(usize),
-    Eof(usize),
+    Eof(usize, usize),
     InvalidRgb(usize),
     NoRoom(usize),
     TooLong(usize),
@@ -28,7 +28,7 @@ fn refused(e: LexError, at: usize) -> Shortened
     ensures { λ r. ⌜ shortenedOutcome r ≡ declined (refusalAt at (faultOf e)) ⌝ }
 {
     match e {
-        LexError::Eof => Shortened::Eof(at),
+        LexError::Eof(missing) => Shortened::Eof(at, missing),
         LexError::InvalidRgb => Shortened::InvalidRgb(at),
     }
 }
@@ -57,7 +57,7 @@ fn pass(bytes: &[u8], out: &mut [u8]) -> Shortened
     let mut need: usize = 0;
     while at < bytes.len() {
         let read = token::read_token(bytes, at);
-        let ReadToken::Got(t, next) = read else {
+        let ReadToken::Got(next, t) = read else {
             return refused(read.refusal(), at);
         };
         need += append(bytes, t, out, need);

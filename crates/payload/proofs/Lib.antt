@@ -1,4 +1,5 @@
 pub mod LetElse
+pub mod Pieces
 pub mod Signed
 pub mod Rests
 pub mod HighestFirst

@@ -38,84 +38,85 @@ use Rattle.payload.specs.declared.answers.ReadRgb.{ReadRgb}
 use Rattle.payload.specs.declared.answers.ReadRgb.the-variants as Colour
 
 abbrev lexErrorOf : Fault → LexError
-lexErrorOf tooShort = Eof
+lexErrorOf (tooShort m) = Eof m
 lexErrorOf badColour = InvalidRgb
 
 error-back : (e : LexError) → lexErrorOf (faultOf e) ≡ e
-error-back Eof = refl
+error-back (Eof m) = refl
 error-back InvalidRgb = refl
 
 -- an answer read back
-abbrev backTo : {E A : Type 0} → (A → ℕ → E) → (LexError → E) → Answer A → E
-backTo got refusing (found x n) = got x n
-backTo got refusing (refused e) = refusing (lexErrorOf e)
+abbrev backTo : {E A : Type 0} → (A → ℕ → E) → (ℕ → E) → Answer A → E
+backTo got lacking (found x n) = got x n
+backTo got lacking (refused (tooShort m)) = lacking m
+backTo got lacking (refused badColour) = lacking 0
 
 -- what `refusal` gives
 pub refusal-one : {f : Fault} (e e′ : LexError) → faultOf e ≡ f → faultOf e′ ≡ f → e ≡ e′
 refusal-one = same faultOf lexErrorOf error-back
 
-u8-back : (r : ReadU8) → backTo U8.Got U8.Refused (u8Answer r) ≡ r
+u8-back : (r : ReadU8) → backTo U8.Got U8.Eof (u8Answer r) ≡ r
 u8-back (U8.Got x n) = refl
-u8-back (U8.Refused e) = ap U8.Refused (error-back e)
+u8-back (U8.Eof m) = refl
 
 pub u8-one : {a : Answer ℕ} (r r′ : ReadU8) → u8Answer r ≡ a → u8Answer r′ ≡ a → r ≡ r′
-u8-one = same u8Answer (backTo U8.Got U8.Refused) u8-back
+u8-one = same u8Answer (backTo U8.Got U8.Eof) u8-back
 
-u16-back : (r : ReadU16) → backTo U16.Got U16.Refused (u16Answer r) ≡ r
+u16-back : (r : ReadU16) → backTo U16.Got U16.Eof (u16Answer r) ≡ r
 u16-back (U16.Got x n) = refl
-u16-back (U16.Refused e) = ap U16.Refused (error-back e)
+u16-back (U16.Eof m) = refl
 
 pub u16-one : {a : Answer ℕ} (r r′ : ReadU16) → u16Answer r ≡ a → u16Answer r′ ≡ a → r ≡ r′
-u16-one = same u16Answer (backTo U16.Got U16.Refused) u16-back
+u16-one = same u16Answer (backTo U16.Got U16.Eof) u16-back
 
-u32-back : (r : ReadU32) → backTo U32.Got U32.Refused (u32Answer r) ≡ r
+u32-back : (r : ReadU32) → backTo U32.Got U32.Eof (u32Answer r) ≡ r
 u32-back (U32.Got x n) = refl
-u32-back (U32.Refused e) = ap U32.Refused (error-back e)
+u32-back (U32.Eof m) = refl
 
 pub u32-one : {a : Answer ℕ} (r r′ : ReadU32) → u32Answer r ≡ a → u32Answer r′ ≡ a → r ≡ r′
-u32-one = same u32Answer (backTo U32.Got U32.Refused) u32-back
+u32-one = same u32Answer (backTo U32.Got U32.Eof) u32-back
 
-u64-back : (r : ReadU64) → backTo U64.Got U64.Refused (u64Answer r) ≡ r
+u64-back : (r : ReadU64) → backTo U64.Got U64.Eof (u64Answer r) ≡ r
 u64-back (U64.Got x n) = refl
-u64-back (U64.Refused e) = ap U64.Refused (error-back e)
+u64-back (U64.Eof m) = refl
 
 pub u64-one : {a : Answer ℕ} (r r′ : ReadU64) → u64Answer r ≡ a → u64Answer r′ ≡ a → r ≡ r′
-u64-one = same u64Answer (backTo U64.Got U64.Refused) u64-back
+u64-one = same u64Answer (backTo U64.Got U64.Eof) u64-back
 
-i32-back : (r : ReadI32) → backTo I32.Got I32.Refused (i32Answer r) ≡ r
+i32-back : (r : ReadI32) → backTo I32.Got I32.Eof (i32Answer r) ≡ r
 i32-back (I32.Got x n) = refl
-i32-back (I32.Refused e) = ap I32.Refused (error-back e)
+i32-back (I32.Eof m) = refl
 
 pub i32-one : {a : Answer ℤ} (r r′ : ReadI32) → i32Answer r ≡ a → i32Answer r′ ≡ a → r ≡ r′
-i32-one = same i32Answer (backTo I32.Got I32.Refused) i32-back
+i32-one = same i32Answer (backTo I32.Got I32.Eof) i32-back
 
-i64-back : (r : ReadI64) → backTo I64.Got I64.Refused (i64Answer r) ≡ r
+i64-back : (r : ReadI64) → backTo I64.Got I64.Eof (i64Answer r) ≡ r
 i64-back (I64.Got x n) = refl
-i64-back (I64.Refused e) = ap I64.Refused (error-back e)
+i64-back (I64.Eof m) = refl
 
 pub i64-one : {a : Answer ℤ} (r r′ : ReadI64) → i64Answer r ≡ a → i64Answer r′ ≡ a → r ≡ r′
-i64-one = same i64Answer (backTo I64.Got I64.Refused) i64-back
+i64-one = same i64Answer (backTo I64.Got I64.Eof) i64-back
 
-bool-back : (r : ReadBool) → backTo Truth.Got Truth.Refused (boolAnswer r) ≡ r
+bool-back : (r : ReadBool) → backTo Truth.Got Truth.Eof (boolAnswer r) ≡ r
 bool-back (Truth.Got x n) = refl
-bool-back (Truth.Refused e) = ap Truth.Refused (error-back e)
+bool-back (Truth.Eof m) = refl
 
 pub bool-one : {a : Answer Bool} (r r′ : ReadBool) → boolAnswer r ≡ a → boolAnswer r′ ≡ a → r ≡ r′
-bool-one = same boolAnswer (backTo Truth.Got Truth.Refused) bool-back
+bool-one = same boolAnswer (backTo Truth.Got Truth.Eof) bool-back
 
-id-back : (r : ReadId) → backTo (λ x n. Id.Got (record { 0 = x }) n) Id.Refused (idAnswer r) ≡ r
+id-back : (r : ReadId) → backTo (λ x n. Id.Got (record { 0 = x }) n) Id.Eof (idAnswer r) ≡ r
 id-back (Id.Got x n) = refl
-id-back (Id.Refused e) = ap Id.Refused (error-back e)
+id-back (Id.Eof m) = refl
 
 pub id-one : {a : Answer ℕ} (r r′ : ReadId) → idAnswer r ≡ a → idAnswer r′ ≡ a → r ≡ r′
-id-one = same idAnswer (backTo (λ x n. Id.Got (record { 0 = x }) n) Id.Refused) id-back
+id-one = same idAnswer (backTo (λ x n. Id.Got (record { 0 = x }) n) Id.Eof) id-back
 
-string-back : (r : ReadString) → backTo String.Got String.Refused (textAnswer r) ≡ r
+string-back : (r : ReadString) → backTo String.Got String.Eof (textAnswer r) ≡ r
 string-back (String.Got x n) = refl
-string-back (String.Refused e) = ap String.Refused (error-back e)
+string-back (String.Eof m) = refl
 
 pub string-one : {a : Answer Text} (r r′ : ReadString) → textAnswer r ≡ a → textAnswer r′ ≡ a → r ≡ r′
-string-one = same textAnswer (backTo String.Got String.Refused) string-back
+string-one = same textAnswer (backTo String.Got String.Eof) string-back
 
 -- a colour stands for a value of one case only, so it is told by that case's parts
 abbrev alphaBack : Option ℕ → Alpha
@@ -144,9 +145,14 @@ colours (Colour.Got x n) (Colour.Got x′ n′) p =
     let v : colourOf x ≡ colourOf x′ = cc in
     let m : n ≡ n′ = cc in
     cc (colour-one x x′ v)
-colours (Colour.Got x n) (Colour.Refused e) p = cc
-colours (Colour.Refused e) (Colour.Got x n) p = cc
-colours (Colour.Refused e) (Colour.Refused e′) p = let f : faultOf e ≡ faultOf e′ = cc in ap Colour.Refused (refusal-one e e′ f refl)
+colours (Colour.Got x n) (Colour.Eof m) p = cc
+colours (Colour.Got x n) Colour.InvalidRgb p = cc
+colours (Colour.Eof m) (Colour.Got x n) p = cc
+colours (Colour.Eof m) (Colour.Eof k) p = let q : m ≡ k = cc in ap Colour.Eof q
+colours (Colour.Eof m) Colour.InvalidRgb p = cc
+colours Colour.InvalidRgb (Colour.Got x n) p = cc
+colours Colour.InvalidRgb (Colour.Eof m) p = cc
+colours Colour.InvalidRgb Colour.InvalidRgb p = refl
 
 pub rgb-one : {a : Answer F.Value} (r r′ : ReadRgb) → rgbAnswer r ≡ a → rgbAnswer r′ ≡ a → r ≡ r′
 rgb-one r r′ p q = colours r r′ (p ∙ sym q)

@@ -36,13 +36,19 @@ use Rattle.payload.specs.declared.answers.ReadRgb.{ReadRgb}
 use Rattle.payload.specs.declared.answers.ReadRgb.the-variants as Colour
 
 abbrev pub faultOf : LexError → Fault
-faultOf Eof = tooShort
+faultOf (Eof m) = tooShort m
 faultOf InvalidRgb = badColour
 
 -- why a read was refused; badColour where it was not
 abbrev pub why : {A : Type 0} → Answer A → Fault
 why (found a n) = badColour
 why (refused e) = e
+
+-- how many bytes were missing; 0 where none were
+abbrev pub shortBy : {A : Type 0} → Answer A → ℕ
+shortBy (found a n) = 0
+shortBy (refused (tooShort m)) = m
+shortBy (refused badColour) = 0
 
 -- a text that ends at a place
 abbrev pub textOf : ℕ → List ℕ → Text
@@ -60,40 +66,41 @@ colourOf x = F.Rgb (x .r) (x .g) (x .b) (alphaOf (x .a))
 
 abbrev pub u8Answer : ReadU8 → Answer ℕ
 u8Answer (U8.Got x n) = found x n
-u8Answer (U8.Refused e) = refused (faultOf e)
+u8Answer (U8.Eof m) = refused (tooShort m)
 
 abbrev pub u16Answer : ReadU16 → Answer ℕ
 u16Answer (U16.Got x n) = found x n
-u16Answer (U16.Refused e) = refused (faultOf e)
+u16Answer (U16.Eof m) = refused (tooShort m)
 
 abbrev pub u32Answer : ReadU32 → Answer ℕ
 u32Answer (U32.Got x n) = found x n
-u32Answer (U32.Refused e) = refused (faultOf e)
+u32Answer (U32.Eof m) = refused (tooShort m)
 
 abbrev pub u64Answer : ReadU64 → Answer ℕ
 u64Answer (U64.Got x n) = found x n
-u64Answer (U64.Refused e) = refused (faultOf e)
+u64Answer (U64.Eof m) = refused (tooShort m)
 
 abbrev pub i32Answer : ReadI32 → Answer ℤ
 i32Answer (I32.Got x n) = found x n
-i32Answer (I32.Refused e) = refused (faultOf e)
+i32Answer (I32.Eof m) = refused (tooShort m)
 
 abbrev pub i64Answer : ReadI64 → Answer ℤ
 i64Answer (I64.Got x n) = found x n
-i64Answer (I64.Refused e) = refused (faultOf e)
+i64Answer (I64.Eof m) = refused (tooShort m)
 
 abbrev pub boolAnswer : ReadBool → Answer Bool
 boolAnswer (Truth.Got x n) = found x n
-boolAnswer (Truth.Refused e) = refused (faultOf e)
+boolAnswer (Truth.Eof m) = refused (tooShort m)
 
 abbrev pub idAnswer : ReadId → Answer ℕ
 idAnswer (Id.Got x n) = found (x .0) n
-idAnswer (Id.Refused e) = refused (faultOf e)
+idAnswer (Id.Eof m) = refused (tooShort m)
 
 abbrev pub textAnswer : ReadString → Answer Text
 textAnswer (String.Got x n) = found x n
-textAnswer (String.Refused e) = refused (faultOf e)
+textAnswer (String.Eof m) = refused (tooShort m)
 
 abbrev pub rgbAnswer : ReadRgb → Answer F.Value
 rgbAnswer (Colour.Got x n) = found (colourOf x) n
-rgbAnswer (Colour.Refused e) = refused (faultOf e)
+rgbAnswer (Colour.Eof m) = refused (tooShort m)
+rgbAnswer Colour.InvalidRgb = refused badColour

@@ -1,11 +1,11 @@
 // The answers of the reads: a value and the place after it, or a refusal.
 ghost use mathlib.Core.Path.{_≡_};
-ghost use Rattle.payload.specs.Answers.{faultOf, why, u8Answer, u16Answer, u32Answer, u64Answer, i32Answer, i64Answer, boolAnswer, idAnswer, textAnswer, rgbAnswer};
+ghost use Rattle.payload.specs.Answers.{faultOf, why, shortBy, u8Answer, u16Answer, u32Answer, u64Answer, i32Answer, i64Answer, boolAnswer, idAnswer, textAnswer, rgbAnswer};
 use lexeme::LexemeId;
 
-// Why a read is refused.
+// Why a read is refused: so many bytes are missing, or a colour is none.
 pub enum LexError {
-    Eof,
+    Eof(usize),
     InvalidRgb,
 }
 
@@ -30,160 +30,161 @@ pub struct Rgb {
 
 pub enum ReadU8 {
     Got(u8, usize),
-    Refused(LexError),
+    Eof(usize),
 }
 
 impl ReadU8 {
-    // Why the read was refused; InvalidRgb where it was not.
-    pub fn refusal(self) -> LexError
-        ensures { λ r. ⌜ faultOf r ≡ why (u8Answer self) ⌝ }
+    // How many bytes were missing; 0 where none were.
+    pub fn missing(self) -> usize
+        ensures { λ r. ⌜ r ≡ shortBy (u8Answer self) ⌝ }
     {
         match self {
-            ReadU8::Got(_, _) => LexError::InvalidRgb,
-            ReadU8::Refused(e) => e,
+            ReadU8::Got(_, _) => 0,
+            ReadU8::Eof(missing) => missing,
         }
     }
 }
 
 pub enum ReadU16 {
     Got(u16, usize),
-    Refused(LexError),
+    Eof(usize),
 }
 
 impl ReadU16 {
-    // Why the read was refused; InvalidRgb where it was not.
-    pub fn refusal(self) -> LexError
-        ensures { λ r. ⌜ faultOf r ≡ why (u16Answer self) ⌝ }
+    // How many bytes were missing; 0 where none were.
+    pub fn missing(self) -> usize
+        ensures { λ r. ⌜ r ≡ shortBy (u16Answer self) ⌝ }
     {
         match self {
-            ReadU16::Got(_, _) => LexError::InvalidRgb,
-            ReadU16::Refused(e) => e,
+            ReadU16::Got(_, _) => 0,
+            ReadU16::Eof(missing) => missing,
         }
     }
 }
 
 pub enum ReadU32 {
     Got(u32, usize),
-    Refused(LexError),
+    Eof(usize),
 }
 
 impl ReadU32 {
-    // Why the read was refused; InvalidRgb where it was not.
-    pub fn refusal(self) -> LexError
-        ensures { λ r. ⌜ faultOf r ≡ why (u32Answer self) ⌝ }
+    // How many bytes were missing; 0 where none were.
+    pub fn missing(self) -> usize
+        ensures { λ r. ⌜ r ≡ shortBy (u32Answer self) ⌝ }
     {
         match self {
-            ReadU32::Got(_, _) => LexError::InvalidRgb,
-            ReadU32::Refused(e) => e,
+            ReadU32::Got(_, _) => 0,
+            ReadU32::Eof(missing) => missing,
         }
     }
 }
 
 pub enum ReadU64 {
     Got(u64, usize),
-    Refused(LexError),
+    Eof(usize),
 }
 
 impl ReadU64 {
-    // Why the read was refused; InvalidRgb where it was not.
-    pub fn refusal(self) -> LexError
-        ensures { λ r. ⌜ faultOf r ≡ why (u64Answer self) ⌝ }
+    // How many bytes were missing; 0 where none were.
+    pub fn missing(self) -> usize
+        ensures { λ r. ⌜ r ≡ shortBy (u64Answer self) ⌝ }
     {
         match self {
-            ReadU64::Got(_, _) => LexError::InvalidRgb,
-            ReadU64::Refused(e) => e,
+            ReadU64::Got(_, _) => 0,
+            ReadU64::Eof(missing) => missing,
         }
     }
 }
 
 pub enum ReadI32 {
     Got(i32, usize),
-    Refused(LexError),
+    Eof(usize),
 }
 
 impl ReadI32 {
-    // Why the read was refused; InvalidRgb where it was not.
-    pub fn refusal(self) -> LexError
-        ensures { λ r. ⌜ faultOf r ≡ why (i32Answer self) ⌝ }
+    // How many bytes were missing; 0 where none were.
+    pub fn missing(self) -> usize
+        ensures { λ r. ⌜ r ≡ shortBy (i32Answer self) ⌝ }
     {
         match self {
-            ReadI32::Got(_, _) => LexError::InvalidRgb,
-            ReadI32::Refused(e) => e,
+            ReadI32::Got(_, _) => 0,
+            ReadI32::Eof(missing) => missing,
         }
     }
 }
 
 pub enum ReadI64 {
     Got(i64, usize),
-    Refused(LexError),
+    Eof(usize),
 }
 
 impl ReadI64 {
-    // Why the read was refused; InvalidRgb where it was not.
-    pub fn refusal(self) -> LexError
-        ensures { λ r. ⌜ faultOf r ≡ why (i64Answer self) ⌝ }
+    // How many bytes were missing; 0 where none were.
+    pub fn missing(self) -> usize
+        ensures { λ r. ⌜ r ≡ shortBy (i64Answer self) ⌝ }
     {
         match self {
-            ReadI64::Got(_, _) => LexError::InvalidRgb,
-            ReadI64::Refused(e) => e,
+            ReadI64::Got(_, _) => 0,
+            ReadI64::Eof(missing) => missing,
         }
     }
 }
 
 pub enum ReadBool {
     Got(bool, usize),
-    Refused(LexError),
+    Eof(usize),
 }
 
 impl ReadBool {
-    // Why the read was refused; InvalidRgb where it was not.
-    pub fn refusal(self) -> LexError
-        ensures { λ r. ⌜ faultOf r ≡ why (boolAnswer self) ⌝ }
+    // How many bytes were missing; 0 where none were.
+    pub fn missing(self) -> usize
+        ensures { λ r. ⌜ r ≡ shortBy (boolAnswer self) ⌝ }
     {
         match self {
-            ReadBool::Got(_, _) => LexError::InvalidRgb,
-            ReadBool::Refused(e) => e,
+            ReadBool::Got(_, _) => 0,
+            ReadBool::Eof(missing) => missing,
         }
     }
 }
 
 pub enum ReadId {
     Got(LexemeId, usize),
-    Refused(LexError),
+    Eof(usize),
 }
 
 impl ReadId {
-    // Why the read was refused; InvalidRgb where it was not.
-    pub fn refusal(self) -> LexError
-        ensures { λ r. ⌜ faultOf r ≡ why (idAnswer self) ⌝ }
+    // How many bytes were missing; 0 where none were.
+    pub fn missing(self) -> usize
+        ensures { λ r. ⌜ r ≡ shortBy (idAnswer self) ⌝ }
     {
         match self {
-            ReadId::Got(_, _) => LexError::InvalidRgb,
-            ReadId::Refused(e) => e,
+            ReadId::Got(_, _) => 0,
+            ReadId::Eof(missing) => missing,
         }
     }
 }
 
 pub enum ReadString {
     Got(Text, usize),
-    Refused(LexError),
+    Eof(usize),
 }
 
 impl ReadString {
-    // Why the read was refused; InvalidRgb where it was not.
-    pub fn refusal(self) -> LexError
-        ensures { λ r. ⌜ faultOf r ≡ why (textAnswer self) ⌝ }
+    // How many bytes were missing; 0 where none were.
+    pub fn missing(self) -> usize
+        ensures { λ r. ⌜ r ≡ shortBy (textAnswer self) ⌝ }
     {
         match self {
-            ReadString::Got(_, _) => LexError::InvalidRgb,
-            ReadString::Refused(e) => e,
+            ReadString::Got(_, _) => 0,
+            ReadString::Eof(missing) => missing,
         }
     }
 }
 
 pub enum ReadRgb {
     Got(Rgb, usize),
-    Refused(LexError),
+    Eof(usize),
+    InvalidRgb,
 }
 
 impl ReadRgb {
@@ -193,7 +194,8 @@ impl ReadRgb {
     {
         match self {
             ReadRgb::Got(_, _) => LexError::InvalidRgb,
-            ReadRgb::Refused(e) => e,
+            ReadRgb::Eof(missing) => LexError::Eof(missing),
+            ReadRgb::InvalidRgb => LexError::InvalidRgb,
         }
     }
 }

@@ -1,13 +1,13 @@
 // Colours.
 ghost use mathlib.Core.Path.{_≡_};
 ghost use Rattle.form.specs.Readers.{at as readAt};
-ghost use Rattle.form.specs.Reading.{channel, rgb, withAlpha, ending, headed};
-ghost use Rattle.payload.specs.Answers.{faultOf, why, rgbAnswer};
+ghost use Rattle.form.specs.Reading.{channel, channels, rgb, alphaEnd, withAlpha, ending, headed};
+ghost use Rattle.payload.specs.Answers.{shortBy, rgbAnswer};
 ghost use Rattle.payload.specs.Colour.{channelAnswer};
 use crate::answers::Alpha;
-use crate::answers::LexError;
 use crate::answers::ReadId;
 use crate::answers::ReadRgb;
+use crate::answers::ReadString;
 use crate::answers::ReadU32;
 use crate::answers::Rgb;
 use lexeme::LexemeId;
@@ -21,16 +21,16 @@ struct Channel {
 
 enum ReadChannel {
     Got(Channel, usize),
-    Refused(LexError),
+    Eof(usize),
 }
 
 impl ReadChannel {
-    fn refusal(self) -> LexError
-        ensures { λ r. ⌜ faultOf r ≡ why (channelAnswer self) ⌝ }
+    fn missing(self) -> usize
+        ensures { λ r. ⌜ r ≡ shortBy (channelAnswer self) ⌝ }
     {
         match self {
-            ReadChannel::Got(_, _) => LexError::InvalidRgb,
-            ReadChannel::Refused(e) => e,
+            ReadChannel::Got(_, _) => 0,
+            ReadChannel::Eof(missing) => missing,
         }
     }
 }
@@ -40,11 +40,11 @@ fn read_channel(bytes: &[u8], at: usize) -> ReadChannel
 {
     let first = crate::read_id(bytes, at);
     let ReadId::Got(id, start) = first else {
-        return ReadChannel::Refused(first.refusal());
+        return ReadChannel::Eof(first.missing());
     };
     let second = crate::read_u32(bytes, start);
     let ReadU32::Got(value, next) = second else {
-        return ReadChannel::Refused(second.refusal());
+        return ReadChannel::Eof(second.missing());
     };
     ReadChannel::Got(Channel { id, value }, next)
 }
@@ -65,16 +65,17 @@ fn begins(o: LexemeId, r: LexemeId, g: LexemeId, b: LexemeId) -> bool
     b.is(LexemeId::U32)
 }
 
-fn read_alpha(bytes: &[u8], at: usize, r: u32, g: u32, b: u32) -> ReadRgb
-    ensures { λ x. ⌜ rgbAnswer x ≡ readAt (withAlpha r g b) (now (bytes .entry)) at ⌝ }
+// A fourth channel's number and the end, by what stands there.
+fn read_last(bytes: &[u8], at: usize, r: u32, g: u32, b: u32) -> ReadRgb
+    ensures { λ x. ⌜ rgbAnswer x ≡ readAt (alphaEnd r g b) (now (bytes .entry)) at ⌝ }
 {
     let first = crate::read_u32(bytes, at);
     let ReadU32::Got(a, middle) = first else {
-        return ReadRgb::Refused(first.refusal());
+        return ReadRgb::Eof(first.missing());
     };
     let second = crate::read_id(bytes, middle);
     let ReadId::Got(end, next) = second else {
-        return ReadRgb::Refused(second.refusal());
+        return ReadRgb::Eof(second.missing());
     };
     if end.is(LexemeId::CLOSE) {
         ReadRgb::Got(
@@ -87,8 +88,19 @@ fn read_alpha(bytes: &[u8], at: usize, r: u32, g: u32, b: u32) -> ReadRgb
             next,
         )
     } else {
-        ReadRgb::Refused(LexError::InvalidRgb)
+        ReadRgb::InvalidRgb
     }
+}
+
+// The same, where all its bytes are there.
+fn read_alpha(bytes: &[u8], at: usize, r: u32, g: u32, b: u32) -> ReadRgb
+    ensures { λ x. ⌜ rgbAnswer x ≡ readAt (withAlpha r g b) (now (bytes .entry)) at ⌝ }
+{
+    let piece = crate::read_bytes(bytes, at, 6);
+    let ReadString::Got(_, _) = piece else {
+        return ReadRgb::Eof(piece.missing());
+    };
+    read_last(bytes, at, r, g, b)
 }
 
 // What follows the third channel.
@@ -107,36 +119,48 @@ fn closing(bytes: &[u8], at: usize, end: LexemeId, r: u32, g: u32, b: u32) -> Re
             at,
         ),
         number::U32 => read_alpha(bytes, at, r, g, b),
-        _ => ReadRgb::Refused(LexError::InvalidRgb),
+        _ => ReadRgb::InvalidRgb,
     }
 }
 
-pub(crate) fn read_colour(bytes: &[u8], at: usize) -> ReadRgb
-    ensures { λ x. ⌜ rgbAnswer x ≡ readAt rgb (now (bytes .entry)) at ⌝ }
+// Three channels and what follows them, by what stands there.
+fn read_channels(bytes: &[u8], at: usize) -> ReadRgb
+    ensures { λ x. ⌜ rgbAnswer x ≡ readAt channels (now (bytes .entry)) at ⌝ }
 {
     let first = crate::read_id(bytes, at);
     let ReadId::Got(open, at1) = first else {
-        return ReadRgb::Refused(first.refusal());
+        return ReadRgb::Eof(first.missing());
     };
     let red = read_channel(bytes, at1);
     let ReadChannel::Got(r, at2) = red else {
-        return ReadRgb::Refused(red.refusal());
+        return ReadRgb::Eof(red.missing());
     };
     let green = read_channel(bytes, at2);
     let ReadChannel::Got(g, at3) = green else {
-        return ReadRgb::Refused(green.refusal());
+        return ReadRgb::Eof(green.missing());
     };
     let blue = read_channel(bytes, at3);
     let ReadChannel::Got(b, at4) = blue else {
-        return ReadRgb::Refused(blue.refusal());
+        return ReadRgb::Eof(blue.missing());
     };
     let last = crate::read_id(bytes, at4);
     let ReadId::Got(end, at5) = last else {
-        return ReadRgb::Refused(last.refusal());
+        return ReadRgb::Eof(last.missing());
     };
     if begins(open, r.id, g.id, b.id) {
         closing(bytes, at5, end, r.value, g.value, b.value)
     } else {
-        ReadRgb::Refused(LexError::InvalidRgb)
+        ReadRgb::InvalidRgb
     }
+}
+
+// The same, where its first 22 bytes are there.
+pub(crate) fn read_colour(bytes: &[u8], at: usize) -> ReadRgb
+    ensures { λ x. ⌜ rgbAnswer x ≡ readAt rgb (now (bytes .entry)) at ⌝ }
+{
+    let piece = crate::read_bytes(bytes, at, 22);
+    let ReadString::Got(_, _) = piece else {
+        return ReadRgb::Eof(piece.missing());
+    };
+    read_channels(bytes, at)
 }

@@ -39,7 +39,7 @@ pub(crate) fn read_few(bytes: &[u8], at: usize, width: usize) -> ReadU64
 {
     let part = crate::read_bytes(bytes, at, width);
     let ReadString::Got(_, next) = part else {
-        return ReadU64::Refused(part.refusal());
+        return ReadU64::Eof(part.missing());
     };
     let x = between(bytes, at, next);
     ReadU64::Got(x, next)

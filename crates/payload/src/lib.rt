@@ -37,17 +37,18 @@ pub fn read_id(bytes: &[u8], at: usize) -> ReadId
 {
     let r = numbers::read_width(bytes, at, 2);
     let ReadU64::Got(x, next) = r else {
-        return ReadId::Refused(r.refusal());
+        return ReadId::Eof(r.missing());
     };
     ReadId::Got(LexemeId::new(x as u16), next)
 }
 
-// The place of the next bytes, so many. Every read asks for its bytes here, and hands on the refusal that it gets.
+// The place of the next bytes, so many. Every read asks for its bytes here, and hands on how many are missing.
 pub fn read_bytes(bytes: &[u8], at: usize, count: usize) -> ReadString
     ensures { λ r. ⌜ textAnswer r ≡ placed textOf (readAt (next count) (now (bytes .entry)) at) ⌝ }
 {
     if !split::has(bytes, at, count) {
-        return ReadString::Refused(LexError::Eof);
+        let missing = count - split::left(bytes, at);
+        return ReadString::Eof(missing);
     }
     let end = at + count;
     ReadString::Got(
@@ -65,11 +66,11 @@ pub fn read_string(bytes: &[u8], at: usize) -> ReadString
 {
     let r = numbers::read_width(bytes, at, 2);
     let ReadU64::Got(x, start) = r else {
-        return ReadString::Refused(r.refusal());
+        return ReadString::Eof(r.missing());
     };
     let part = read_bytes(bytes, start, x as usize);
     let ReadString::Got(text, next) = part else {
-        return ReadString::Refused(part.refusal());
+        return ReadString::Eof(part.missing());
     };
     ReadString::Got(text, next)
 }
@@ -80,7 +81,7 @@ pub fn read_bool(bytes: &[u8], at: usize) -> ReadBool
 {
     let r = numbers::read_width(bytes, at, 1);
     let ReadU64::Got(x, next) = r else {
-        return ReadBool::Refused(r.refusal());
+        return ReadBool::Eof(r.missing());
     };
     ReadBool::Got(x != 0, next)
 }
@@ -105,7 +106,7 @@ pub fn read_i32(bytes: &[u8], at: usize) -> ReadI32
 {
     let r = numbers::read_width(bytes, at, 4);
     let ReadU64::Got(x, next) = r else {
-        return ReadI32::Refused(r.refusal());
+        return ReadI32::Eof(r.missing());
     };
     ReadI32::Got(numbers::signed32(x), next)
 }
@@ -116,7 +117,7 @@ pub fn read_i64(bytes: &[u8], at: usize) -> ReadI64
 {
     let r = numbers::read_width(bytes, at, 8);
     let ReadU64::Got(x, next) = r else {
-        return ReadI64::Refused(r.refusal());
+        return ReadI64::Eof(r.missing());
     };
     ReadI64::Got(numbers::signed64(x), next)
 }
@@ -141,7 +142,7 @@ pub fn read_lookup_u8(bytes: &[u8], at: usize) -> ReadU8
 {
     let r = numbers::read_width(bytes, at, 1);
     let ReadU64::Got(x, next) = r else {
-        return ReadU8::Refused(r.refusal());
+        return ReadU8::Eof(r.missing());
     };
     let value = x as u8;
     ReadU8::Got(value, next)
@@ -153,7 +154,7 @@ pub fn read_lookup_u16(bytes: &[u8], at: usize) -> ReadU16
 {
     let r = numbers::read_width(bytes, at, 2);
     let ReadU64::Got(x, next) = r else {
-        return ReadU16::Refused(r.refusal());
+        return ReadU16::Eof(r.missing());
     };
     let value = x as u16;
     ReadU16::Got(value, next)
@@ -179,7 +180,7 @@ pub fn read_compact_f64(bytes: &[u8], at: usize, width: usize, negative: bool) -
 {
     let r = compact::read_few(bytes, at, compact::capped(width));
     let ReadU64::Got(x, next) = r else {
-        return ReadU64::Refused(r.refusal());
+        return ReadU64::Eof(r.missing());
     };
     if negative {
         ReadU64::Got(compact::negate(x), next)

@@ -33,7 +33,7 @@ pub(crate) fn read_width(bytes: &[u8], at: usize, width: usize) -> ReadU64
 {
     let part = crate::read_bytes(bytes, at, width);
     let ReadString::Got(_, _) = part else {
-        return ReadU64::Refused(part.refusal());
+        return ReadU64::Eof(part.missing());
     };
     let x = spelled(bytes, at, width);
     let next = at + width;
@@ -47,7 +47,7 @@ pub(crate) fn read_width32(bytes: &[u8], at: usize, width: usize) -> ReadU32
 {
     let r = read_width(bytes, at, width);
     let ReadU64::Got(x, next) = r else {
-        return ReadU32::Refused(r.refusal());
+        return ReadU32::Eof(r.missing());
     };
     let value = x as u32;
     ReadU32::Got(value, next)

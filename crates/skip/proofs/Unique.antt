@@ -12,12 +12,12 @@ use Rattle.skip.specs.declared.Skipped.the-variants.{To, Refused}
 
 abbrev backTo : Skip → Skipped
 backTo (past n) = To n
-backTo (stopped tooShort n) = Refused Eof n
+backTo (stopped (tooShort m) n) = Refused (Eof m) n
 backTo (stopped badColour n) = Refused InvalidRgb n
 
 back : (r : Skipped) → backTo (skipAnswer r) ≡ r
 back (To n) = refl
-back (Refused Eof n) = refl
+back (Refused (Eof m) n) = refl
 back (Refused InvalidRgb n) = refl
 
 module _ (s : List ℕ) (p : ℕ) (r r′ : Skipped) where

@@ -87,7 +87,7 @@ fn over(bytes: &[u8], at: usize, id: LexemeId, depth: u64) -> Turn
         _ => {
             let passed = skip_payload(bytes, at, id);
             let ReadString::Got(_, end) = passed else {
-                return Turn::Refused(passed.refusal());
+                return Turn::Refused(LexError::Eof(passed.missing()));
             };
             if depth == 0 {
                 return Turn::Out(end);
@@ -110,7 +110,7 @@ pub(crate) fn skip_from(bytes: &[u8], start: usize, first: LexemeId) -> Skipped
             Turn::On(end, inner) => {
                 let read = payload::read_id(bytes, end);
                 let ReadId::Got(lexeme, next) = read else {
-                    return Skipped::Refused(read.refusal(), end);
+                    return Skipped::Refused(LexError::Eof(read.missing()), end);
                 };
                 at = next;
                 id = lexeme;

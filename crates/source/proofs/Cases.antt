@@ -76,7 +76,7 @@ module _ (supply schedule : List ℕ) (s : ParserSource) (buffer : List ℕ) whe
       ensured-enough h = fit _ ∙ rw (le-leb _ _ h)
 
       module _ (h : unread s < n) where
-        pub ensured-slice : s .streaming ≡ false → ensured supply schedule n s buffer ≡ halted (Eof (s .position)) s buffer
+        pub ensured-slice : s .streaming ≡ false → ensured supply schedule n s buffer ≡ halted (Eof (s .position) (n - unread s)) s buffer
         unfolding ensured
         ensured-slice t = fit _ ∙ rw (lt-leb _ _ h, t)
 
@@ -138,9 +138,11 @@ module _ (supply schedule : List ℕ) (s : ParserSource) (buffer : List ℕ) (g 
     unfolding toppedBy
     topped-failed h = sym (all ∙ rw (h, ← hn, ← bytes))
 
-    pub topped-short : r .failed ≡ false → next .end < n → halted (Eof (s .position)) next last ≡ topped supply schedule n s buffer
+    pub topped-short : r .failed ≡ false → next .end < n → halted (Eof (s .position) (n - next .end)) next last ≡ topped supply schedule n s buffer
     unfolding toppedBy
-    topped-short h o = sym (all ∙ rw (h, lt-leb n (unread s + r .got) (omega (arith, ap (λ (x : ParserSource). x .end) hn)), ← hn, ← bytes))
+    topped-short h o =
+        let l : next .end ≡ unread s + r .got = ap (λ (x : ParserSource). x .end) hn in
+        sym (all ∙ rw (h, lt-leb n (unread s + r .got) (omega arith), ← hn, ← bytes, l))
 
     pub topped-ready : r .failed ≡ false → n ≤ next .end → drawn tt next last ≡ topped supply schedule n s buffer
     unfolding toppedBy

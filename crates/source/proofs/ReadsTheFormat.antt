@@ -8,7 +8,7 @@ use native.Mathlib.Omega.{arith}
 use lib.ListN.{length, take, drop, length-drop}
 use lib.Seq.{drop-drop}
 use lib.Dec.{leb, eqb}
-use borrow.Author.Tests.{eqb-true, eq-eqb, le-leb}
+use borrow.Author.Tests.{eqb-true, eq-eqb}
 use Rattle.form.specs.Numbers.{pick, le}
 use Rattle.form.specs.Values.{Value, Rgb}
 use Rattle.form.specs.Ids.{OPEN, CLOSE, CHANNEL}
@@ -17,6 +17,7 @@ use Rattle.form.specs.Readers as R
 use Rattle.form.specs.Readers.{Reader, found, _followed-by_, _giving_, give}
 use Rattle.form.specs.Reading as F
 use Rattle.form.proofs.Never.{never}
+use Rattle.form.proofs.Found.{All, next-there, Whole, piece-there, channels-whole, alpha-whole}
 use Rattle.payload.specs.declared.answers.Text.{Text}
 use Rattle.payload.proofs.Texts.{within}
 use Rattle.source.specs.declared.ParserSource.{ParserSource}
@@ -54,13 +55,9 @@ module _ (supply schedule : List ℕ) where
         on = ap (λ (p : ℕ). p + n) (ensured-position supply schedule s buffer n e);
       }
 
-  next-is : (n : ℕ) (l : List ℕ) → n ≤ length l → F.next n l ≡ found (take n l) n
-  unfolding F.next
-  next-is n l h = rw (le-leb n (length l) h)
-
   num-is : (n : ℕ) (l : List ℕ) → n ≤ length l → F.num n l ≡ found (le (take n l)) n
   unfolding F.num _giving_ R.mapped
-  num-is n l h = rw (next-is n l h)
+  num-is n l h = rw (next-there n l h)
 
   -- a number of n bytes: `read_lexeme_id`, where n is 2, and the numbers of a colour
   pub number-finds : (n : ℕ) {s u : ParserSource} {buffer b : List ℕ} {i : ℕ} → number supply schedule n s buffer ≡ drawn i u b → Finds (F.num n) i n s buffer u b
@@ -110,7 +107,7 @@ module _ (supply schedule : List ℕ) where
   -- a length n, and so many bytes
   string-is : (n : ℕ) (l : List ℕ) → n ≡ le (take 2 l) → 2 + n ≤ length l → F.string l ≡ found (take n (drop 2 l)) (2 + n)
   unfolding F.string _followed-by_ R.andThen R.further
-  string-is n l e h = rw (num-is 2 l (omega arith), ← e, next-is n (drop 2 l) (omega (arith, length-drop 2 l)))
+  string-is n l e h = rw (num-is 2 l (omega arith), ← e, next-there n (drop 2 l) (omega (arith, length-drop 2 l)))
 
   -- the bytes of a text that its length stands before
   text-part : (n : ℕ) (t : ParserSource) (b : List ℕ) → Sound supply schedule t b → 2 + n ≤ unread t → take n (drop (t .start + 2) (heldIn supply t b)) ≡ take n (drop 2 (ahead supply t b))
@@ -198,6 +195,13 @@ module _ (supply schedule : List ℕ) where
           })
       by (halted e t b) p o = never (cc)
 
+  -- what is asked for at once is there where no less is found
+  piece-agrees : {A B : Type 0} (h : A → B) (n : ℕ) {f : Draw A} {r : Reader B} → ((l : List ℕ) → All (λ _ k. Whole n l k) (r l)) → Agrees h f r → Agrees h f (F.piece n r)
+  piece-agrees h n {r = r} whole x s buffer a t b e =
+      let w = x s buffer a t b e in
+      let k : Whole n (ahead supply s buffer) (t .position - s .position) = rw (w .is) at (whole (ahead supply s buffer)) in
+      record { is = piece-there n r (ahead supply s buffer) (omega (arith, k)) ∙ w .is; rest = w .rest; on = w .on }
+
   -- an id that is the one expected
   expected-agrees : (i : ℕ) → Agrees (λ _. i) (expected supply schedule i) (F.num 2)
   unfolding expected _then_ drawnThen
@@ -224,10 +228,11 @@ module _ (supply schedule : List ℕ) where
   channel-agrees = then-agrees (λ _. CHANNEL) channelOf _ (expected-agrees CHANNEL) (λ _. giving-agrees (λ n. n) channelOf (number-agrees 4))
 
   alpha-agrees : (r g b : ℕ) → Agrees (λ v. v) (withAlpha supply schedule r g b) (F.withAlpha r g b)
-  unfolding withAlpha F.withAlpha
+  unfolding withAlpha F.withAlpha F.alphaEnd
   alpha-agrees r g b =
-      then-agrees (λ a. a) (λ v. v) _ (number-agrees 4)
-      (λ a. then-agrees (λ _. CLOSE) (λ v. v) _ (expected-agrees CLOSE) (λ _. rw (eq-eqb CLOSE CLOSE refl) (nothing-agrees (Rgb r g b (some a)))))
+      piece-agrees (λ v. v) 6 (alpha-whole r g b)
+      (then-agrees (λ a. a) (λ v. v) _ (number-agrees 4)
+      (λ a. then-agrees (λ _. CLOSE) (λ v. v) _ (expected-agrees CLOSE) (λ _. rw (eq-eqb CLOSE CLOSE refl) (nothing-agrees (Rgb r g b (some a))))))
 
   -- the first four ids were right, so the strict reader looks at the fifth alone
   ended-agrees : (r g b e : ℕ) → Agrees (λ v. v) (endedBy supply schedule r g b e) (F.judged OPEN (channelOf r) (channelOf g) (channelOf b) e)
@@ -237,13 +242,14 @@ module _ (supply schedule : List ℕ) where
       (either-agrees (λ v. v) (eqb e CLOSE) (nothing-agrees (Rgb r g b none)) (either-agrees (λ v. v) (eqb e CHANNEL) (alpha-agrees r g b) (invalid-agrees (λ v. v) _)))
 
   colour-agrees : Agrees (λ v. v) (colour supply schedule) F.rgb
-  unfolding colour channels ending F.rgb
+  unfolding colour channels ending F.rgb F.channels
   colour-agrees =
-      then-agrees (λ _. OPEN) (λ v. v) _ (expected-agrees OPEN) (λ _.
+      piece-agrees (λ v. v) 22 channels-whole
+      (then-agrees (λ _. OPEN) (λ v. v) _ (expected-agrees OPEN) (λ _.
       then-agrees channelOf (λ v. v) _ channel-agrees (λ r.
       then-agrees channelOf (λ v. v) _ channel-agrees (λ g.
       then-agrees channelOf (λ v. v) _ channel-agrees (λ b.
-      then-agrees (λ e. e) (λ v. v) _ (number-agrees 2) (λ e. ended-agrees r g b e)))))
+      then-agrees (λ e. e) (λ v. v) _ (number-agrees 2) (λ e. ended-agrees r g b e))))))
 
   -- `read_rgb`, which judges each id as it comes, gives what the strict reader finds, which takes 22 bytes first
   pub colour-finds : {s u : ParserSource} {buffer b : List ℕ} {v : Value} → colour supply schedule s buffer ≡ drawn v u b → Finds F.rgb v (u .position - s .position) s buffer u b

@@ -7,7 +7,7 @@ use mathlib.Core.List.{List, [], _∷_}
 use Prim.Native.Nat.{ℕ}
 use Rattle.form.specs.Refusals as F
 use Rattle.form.specs.Values.{Value}
-use Rattle.form.proofs.Unique.{same, byNumber}
+use Rattle.form.proofs.Unique.{same, eofOrNumber}
 use Rattle.payload.specs.declared.answers.Text.{Text}
 use Rattle.payload.specs.Answers.{colourOf}
 use Rattle.payload.proofs.Unique.{colour-one}
@@ -39,11 +39,11 @@ use Rattle.source.specs.Answers.{refusalOf, ensuredAnswer, refilledAnswe
 -- ---- refusals; the code has no LongString, WideLookup, ReservedId, NoRoom and TooLong
 
 abbrev errorOf : F.Refusal → ParserError
-errorOf r = byNumber ((2, InvalidRgb) ∷ (5, BufferTooSmall) ∷ (6, ReadFailed) ∷ (7, BadPlace) ∷ []) Eof r
+errorOf r = eofOrNumber Eof ((2, InvalidRgb) ∷ (5, BufferTooSmall) ∷ (6, ReadFailed) ∷ []) BadPlace r
 
 error-back : (e : ParserError) → errorOf (refusalOf e) ≡ e
 unfolding F.refusalNumber F.refusalValue F.refusalValues
-error-back (Eof p) = refl
+error-back (Eof p m) = refl
 error-back (InvalidRgb p) = refl
 error-back (BufferTooSmall p) = refl
 error-back (ReadFailed p) = refl
@@ -179,7 +179,7 @@ rgb-same (C.Got x s) (C.Got x′ s′) b b′ p =
 rgb-same (C.Got x s) (C.Refused y) b b′ p = cc
 rgb-same (C.Refused y) (C.Got x s) b b′ p = cc
 rgb-same (C.Refused y) (C.Refused y′) b b′ p =
-    ap C.Refused (sym (stop-back y) ∙ ap (backTo (λ _ s. stopOf (F.Eof 0) s) (λ x. x)) p ∙ stop-back y′)
+    ap C.Refused (sym (stop-back y) ∙ ap (backTo (λ _ s. stopOf (F.InvalidRgb 0) s) (λ x. x)) p ∙ stop-back y′)
 
 rgb-left : (r : TakenRgb) (b : List ℕ) → leftBy (rgbAnswer r b) ≡ b
 rgb-left (C.Got x s) b = refl

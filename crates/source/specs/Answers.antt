@@ -37,7 +37,7 @@ use Rattle.source.specs.Window.{Drawn, drawn, halted}
 
 -- the refusal that an error stands for
 abbrev pub refusalOf : ParserError → F.Refusal
-refusalOf (Eof p) = F.Eof p
+refusalOf (Eof p m) = F.Eof p m
 refusalOf (InvalidRgb p) = F.InvalidRgb p
 refusalOf (BufferTooSmall p) = F.BufferTooSmall p
 refusalOf (ReadFailed p) = F.ReadFailed p

@@ -122,7 +122,7 @@ module _ (supply : List ℕ) where
   unfoldable pub toppedBy : ℕ → ParserSource → List ℕ → Reads → Drawn (Unit {0})
   toppedBy n s buffer r =
       pick (r .failed) (halted (ReadFailed (s .position)) (filled s r) (filledIn s r buffer))
-      (pick (leb n (unread s + r .got)) (drawn tt (filled s r) (filledIn s r buffer)) (halted (Eof (s .position)) (filled s r) (filledIn s r buffer)))
+      (pick (leb n (unread s + r .got)) (drawn tt (filled s r) (filledIn s r buffer)) (halted (Eof (s .position) (n - (unread s + r .got))) (filled s r) (filledIn s r buffer)))
 
   unfoldable pub onceBy : ParserSource → List ℕ → Reads → Drawn ℕ
   onceBy s buffer r =
@@ -161,7 +161,7 @@ module _ (supply schedule : List ℕ) where
   ensured n =
       fitting (λ s buffer. pick (leb n (unread s)) (drawn tt s buffer)
       (pick (s .streaming) (pick (leb n (length buffer)) (topped n s buffer) (halted (BufferTooSmall (s .position)) s buffer))
-      (halted (Eof (s .position)) s buffer)))
+      (halted (Eof (s .position) (n - unread s)) s buffer)))
 
   -- one read of a stream
   unfoldable pub once : Draw ℕ

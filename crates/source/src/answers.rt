@@ -8,9 +8,9 @@ use lexeme::LexemeId;
 use payload::Rgb;
 use payload::Text;
 
-// Why a call is refused: the position, or the number that does not fit.
+// Why a call is refused: the position, and with Eof how many bytes are missing; or the number that does not fit.
 pub enum ParserError {
-    Eof(usize),
+    Eof(usize, usize),
     InvalidRgb(usize),
     BufferTooSmall(usize),
     ReadFailed(usize),
@@ -23,7 +23,7 @@ impl ParserError {
         ensures { λ r. ⌜ r ≡ isEof (refusalOf self) ⌝ }
     {
         match self {
-            ParserError::Eof(_) => true,
+            ParserError::Eof(_, _) => true,
             ParserError::InvalidRgb(_) => false,
             ParserError::BufferTooSmall(_) => false,
             ParserError::ReadFailed(_) => false,

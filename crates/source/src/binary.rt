@@ -32,7 +32,7 @@ fn spelled16(bytes: &[u8], at: usize) -> u16
     let r = payload::read_lookup_u16(bytes, at);
     match r {
         ReadU16::Got(x, _) => x,
-        ReadU16::Refused(_) => 0,
+        ReadU16::Eof(_) => 0,
     }
 }
 
@@ -44,7 +44,7 @@ fn spelled32(bytes: &[u8], at: usize) -> u32
     let r = payload::read_u32(bytes, at);
     match r {
         ReadU32::Got(x, _) => x,
-        ReadU32::Refused(_) => 0,
+        ReadU32::Eof(_) => 0,
     }
 }
 

@@ -158,9 +158,11 @@ impl ParserSource {
                 next,
             });
         }
-        if next.end < required {
+        let end = next.end;
+        if end < required {
+            let missing = required - end;
             return Ensured::Refused(Stop {
-                error: ParserError::Eof(self.position),
+                error: ParserError::Eof(self.position, missing),
                 next,
             });
         }
@@ -187,12 +189,14 @@ impl ParserSource {
             }
             Check::Fine => {}
         }
-        if required <= self.end - self.start {
+        let unread = self.end - self.start;
+        if required <= unread {
             return Ensured::Ready(self);
         }
         if !self.streaming {
+            let missing = required - unread;
             return Ensured::Refused(Stop {
-                error: ParserError::Eof(self.position),
+                error: ParserError::Eof(self.position, missing),
                 next: self,
             });
         }

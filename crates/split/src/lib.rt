@@ -1,6 +1,6 @@
 // Splitting bytes after a count.
 ghost use mathlib.Core.Path.{_≡_};
-ghost use lib.ListN.{drop};
+ghost use lib.ListN.{length, drop};
 ghost use Rattle.split.specs.Splits.{splits, splitAt, headOf, restOf};
 
 pub enum Split {
@@ -28,6 +28,14 @@ pub fn has(bytes: &[u8], at: usize, count: usize) -> bool
         return count == 0;
     }
     count <= len - at
+}
+
+// How many bytes stand from a place on.
+pub fn left(bytes: &[u8], at: usize) -> usize
+    ensures { λ r. ⌜ r ≡ length (drop at (now (bytes .entry))) ⌝ }
+{
+    let len = bytes.len();
+    if len < at { 0 } else { len - at }
 }
 
 // The bytes before the split; none where there is nothing to split.

@@ -1,3 +1,4 @@
+pub mod LetElse
 pub mod Payloads
 pub mod Values
 pub mod Unique

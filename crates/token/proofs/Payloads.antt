@@ -6,14 +6,14 @@ use mathlib.Core.Path.{_≡_, refl, sym, ap, _∙_}
 use mathlib.Core.Bool.{Bool}
 use mathlib.Core.List.{List, []}
 use borrow.Author.Tests.{le-leb}
-use Rattle.form.specs.Refusals.{Fault}
+use Rattle.form.specs.Refusals.{tooShort}
 use Rattle.form.specs.Values as F
 use Rattle.form.specs.Table.{Payload, number, text, colour, nothing, after}
 use Rattle.form.specs.Readers.{Answer, found, refused, andThen, ByPlace, at, mapped, placed}
 use Rattle.form.specs.Reading.{num, string, rgb, payload}
 use Rattle.form.proofs.Places.{at-giving, by-id, num-there, token-then}
 use Rattle.lexeme.specs.declared.LexemeId.{LexemeId}
-use Rattle.payload.specs.Answers.{why, idAnswer, textOf, colourOf, alphaOf}
+use Rattle.payload.specs.Answers.{shortBy, idAnswer, textOf, colourOf, alphaOf}
 use Rattle.payload.specs.Compact.{atMost7, signedBy, compact}
 use Rattle.payload.specs.declared.answers.Text.{Text}
 use Rattle.payload.specs.declared.answers.Alpha.{Alpha}
@@ -21,7 +21,7 @@ use Rattle.payload.specs.declared.answers.Alpha.the-variants.{Absent, Given}
 use Rattle.payload.specs.declared.answers.Rgb.{Rgb}
 use Rattle.payload.specs.declared.answers.ReadId.{ReadId}
 use Rattle.payload.specs.declared.answers.ReadId.the-variants.{Got}
-use Rattle.payload.proofs.LetElse.{gotOf, elseOf}
+use Rattle.payload.proofs.LetElse.{gotOf, lackOf}
 use Rattle.token.specs.Tokens.{tokenOf, tokenAt, alphaFor}
 use Rattle.token.specs.declared.Token.{Token}
 use Rattle.token.specs.declared.Token.the-variants as T
@@ -33,9 +33,9 @@ module _ {E A : Type 0} (answer : E → Answer A) (h : ℕ → A → Token) {r t
   unfolding placed
   getting e = sym (ap (λ (y : E). placed h (answer y)) q ∙ ap (placed h) e)
 
-  pub refusing : {f : Fault} → f ≡ why (answer r) → answer t ≡ refused (why (answer t)) → refused f ≡ placed h (answer r)
+  pub refusing : {m : ℕ} → m ≡ shortBy (answer r) → answer t ≡ refused (tooShort (shortBy (answer t))) → refused (tooShort m) ≡ placed h (answer r)
   unfolding placed
-  refusing e d = sym (ap (placed h) (elseOf answer refl q e d))
+  refusing e d = sym (ap (placed h) (lackOf answer refl q e d))
 
 -- ---- the token of each payload, by what its read answers
 
@@ -69,9 +69,9 @@ module _ (s : List ℕ) (p : ℕ) where
       l ∙ ap (placed (λ e x. tokenOf e (f x))) k ∙ placed-mapped g (λ e x. tokenOf e (f x)) (at (num w) s p) ∙ sym (numbers w (λ n. f (g n)))
 
   -- of a compact number
-  pub compact-from : (w : ℕ) (negative : Bool) {a : Answer ℕ} {b : Answer Token}
-      → a ≡ compact w negative s p → b ≡ placed (λ e n. tokenOf e (F.F64 n)) a → b ≡ payloadAt (compactOf w negative) s p
-  compact-from w negative = through-at (atMost7 w) (signedBy negative) F.F64
+  pub compact-from : (w : ℕ) (negative : Bool) {b : Answer Token}
+      → b ≡ placed (λ e n. tokenOf e (F.F64 n)) (compact w negative s p) → b ≡ payloadAt (compactOf w negative) s p
+  compact-from w negative = through-at (atMost7 w) (signedBy negative) F.F64 refl
 
   -- of where the text stands
   pub text-at : (f : List ℕ → F.Value) (h : Text → Token) → ((e : ℕ) (t : List ℕ) → tokenOf e (f t) ≡ h (textOf e t))
@@ -120,10 +120,10 @@ module _ (s : List ℕ) (p : ℕ) where
   unfolding tokenAt
   after-id e k l = l ∙ sym (ap (placed tokenOf) (by-id s p (gotOf idAnswer e k) refl))
 
-  pub no-id : {r t : ReadId} {f : Fault}
-      → idAnswer r ≡ at (num 2) s p → r ≡ t → f ≡ why (idAnswer r) → idAnswer t ≡ refused (why (idAnswer t)) → refused f ≡ tokenAt s p
+  pub no-id : {r t : ReadId} {m : ℕ}
+      → idAnswer r ≡ at (num 2) s p → r ≡ t → m ≡ shortBy (idAnswer r) → idAnswer t ≡ refused (tooShort (shortBy (idAnswer t))) → refused (tooShort m) ≡ tokenAt s p
   unfolding tokenAt placed andThen
-  no-id e k h d = sym (ap (placed tokenOf) (token-then s p) ∙ rw (elseOf idAnswer e k h d))
+  no-id e k h d = sym (ap (placed tokenOf) (token-then s p) ∙ rw (lackOf idAnswer e k h d))
 
 -- the bytes of a compact number, by its place in its range of ids
 pub compact-is : (x b : ℕ) (negative : Bool) → x < b + 8 → number (x - b) (λ n. F.F64 (signedBy negative n)) ≡ compactOf (x - b) negative

@@ -3,21 +3,28 @@
 use Prim.Native.Nat.{ℕ}
 use mathlib.Core.Path.{_≡_, refl, sym, ap, _∙_}
 use mathlib.Core.List.{List}
+use Rattle.form.specs.Refusals.{tooShort, badColour}
+use Rattle.form.specs.Readers.{Answer, found, refused}
+use Rattle.form.proofs.Unique.{same}
 use Rattle.payload.specs.declared.answers.Text.{Text}
-use Rattle.payload.proofs.Unique.{refusal-one}
 use Rattle.token.specs.Tokens.{tokenAnswer, tokenAt}
 use Rattle.payload.specs.Texts.{partOf}
 use Rattle.token.specs.Texts.{placeAnswer, placeOf}
+use Rattle.token.specs.declared.Token.{Token}
 use Rattle.token.specs.declared.ReadToken.{ReadToken}
-use Rattle.token.specs.declared.ReadToken.the-variants.{Got, Refused}
+use Rattle.token.specs.declared.ReadToken.the-variants.{Got, Eof, InvalidRgb}
 use Rattle.token.specs.declared.texts.TextAnswer.{TextAnswer}
 use Rattle.token.specs.declared.texts.TextAnswer.the-variants.{Within, BadPlace}
 
-token-one : (r r′ : ReadToken) → tokenAnswer r ≡ tokenAnswer r′ → r ≡ r′
-token-one (Got t n) (Got t′ n′) h = cc
-token-one (Got t n) (Refused e) h = cc
-token-one (Refused e) (Got t n) h = cc
-token-one (Refused e) (Refused e′) h = ap Refused (refusal-one e e′ (cc) refl)
+abbrev tokenBack : Answer Token → ReadToken
+tokenBack (found t n) = Got n t
+tokenBack (refused (tooShort m)) = Eof m
+tokenBack (refused badColour) = InvalidRgb
+
+token-back : (r : ReadToken) → tokenBack (tokenAnswer r) ≡ r
+token-back (Got n t) = refl
+token-back (Eof m) = refl
+token-back InvalidRgb = refl
 
 place-one : (r r′ : TextAnswer) → placeAnswer r ≡ placeAnswer r′ → r ≡ r′
 place-one Within Within h = refl
@@ -27,7 +34,7 @@ place-one (BadPlace p) (BadPlace q) h = cc
 
 module _ (s : List ℕ) where
   pub read-token-one : (p : ℕ) (r r′ : ReadToken) → tokenAnswer r ≡ tokenAt s p → tokenAnswer r′ ≡ tokenAt s p → r ≡ r′
-  read-token-one p r r′ h k = token-one r r′ (h ∙ sym k)
+  read-token-one p = same tokenAnswer tokenBack token-back
 
   pub text-one : (t : Text) (r r′ : TextAnswer) → placeAnswer r ≡ placeOf s t → placeAnswer r′ ≡ placeOf s t → r ≡ r′
   text-one t r r′ h k = place-one r r′ (h ∙ sym k)

@@ -3,10 +3,11 @@ use Prim.Native.Nat.{ℕ}
 use mathlib.Core.Option.{Option, none, some}
 use mathlib.Core.List.{List}
 use lib.ListN.{take, drop}
+use Rattle.form.specs.Refusals.{tooShort, badColour}
 use Rattle.form.specs.Values as F
 use Rattle.form.specs.Readers.{Answer, found, refused, ByPlace, at, placed}
 use Rattle.form.specs.Reading.{token}
-use Rattle.payload.specs.Answers.{faultOf, textOf, colourOf}
+use Rattle.payload.specs.Answers.{textOf, colourOf}
 use Rattle.payload.specs.declared.answers.Alpha.{Alpha}
 use Rattle.payload.specs.declared.answers.Alpha.the-variants.{Absent, Given}
 use Rattle.token.specs.declared.Token.{Token}
@@ -59,5 +60,6 @@ unfoldable pub tokenAt : ByPlace Token
 tokenAt s at′ = placed tokenOf (at token s at′)
 
 abbrev pub tokenAnswer : ReadToken → Answer Token
-tokenAnswer (R.Got t n) = found t n
-tokenAnswer (R.Refused e) = refused (faultOf e)
+tokenAnswer (R.Got n t) = found t n
+tokenAnswer (R.Eof m) = refused (tooShort m)
+tokenAnswer R.InvalidRgb = refused badColour

@@ -3,9 +3,10 @@ mod texts;
 
 ghost use mathlib.Core.Path.{_≡_};
 ghost use Rattle.form.specs.Table.{after};
-ghost use Rattle.form.specs.Readers.{found, at as readAt, placed};
+ghost use Rattle.form.specs.Readers.{found, refused as refusedBy, at as readAt, placed};
 ghost use Rattle.form.specs.Reading.{payload};
 ghost use Rattle.payload.specs.Answers.{faultOf, why, u8Answer, u16Answer, u32Answer, u64Answer, i32Answer, i64Answer, boolAnswer, textAnswer, rgbAnswer};
+ghost use Rattle.payload.specs.Compact.{compact};
 ghost use Rattle.token.specs.Tokens.{tokenAnswer, tokenOf, tokenAt};
 ghost use Rattle.token.specs.declared.Token.the-variants as T;
 pub use crate::texts::TextAnswer;
@@ -49,9 +50,11 @@ pub enum Token {
     Id(u16),
 }
 
+// The place after the token comes first, where a refusal has its number: so the two share a register.
 pub enum ReadToken {
-    Got(Token, usize),
-    Refused(LexError),
+    Got(usize, Token),
+    Eof(usize),
+    InvalidRgb,
 }
 
 impl ReadToken {
@@ -61,7 +64,8 @@ impl ReadToken {
     {
         match self {
             ReadToken::Got(_, _) => LexError::InvalidRgb,
-            ReadToken::Refused(e) => e,
+            ReadToken::Eof(missing) => LexError::Eof(missing),
+            ReadToken::InvalidRgb => LexError::InvalidRgb,
         }
     }
 }
@@ -71,119 +75,129 @@ fn u32_token(r: ReadU32) -> ReadToken
     ensures { λ t. ⌜ tokenAnswer t ≡ placed (λ _. T.U32) (u32Answer r) ⌝ }
 {
     let ReadU32::Got(x, next) = r else {
-        return ReadToken::Refused(r.refusal());
+        return ReadToken::Eof(r.missing());
     };
-    ReadToken::Got(Token::U32(x), next)
+    ReadToken::Got(next, Token::U32(x))
 }
 
 fn i32_token(r: ReadI32) -> ReadToken
     ensures { λ t. ⌜ tokenAnswer t ≡ placed (λ _. T.I32) (i32Answer r) ⌝ }
 {
     let ReadI32::Got(x, next) = r else {
-        return ReadToken::Refused(r.refusal());
+        return ReadToken::Eof(r.missing());
     };
-    ReadToken::Got(Token::I32(x), next)
+    ReadToken::Got(next, Token::I32(x))
 }
 
 fn f32_token(r: ReadU32) -> ReadToken
     ensures { λ t. ⌜ tokenAnswer t ≡ placed (λ _. T.F32) (u32Answer r) ⌝ }
 {
     let ReadU32::Got(x, next) = r else {
-        return ReadToken::Refused(r.refusal());
+        return ReadToken::Eof(r.missing());
     };
-    ReadToken::Got(Token::F32(x), next)
+    ReadToken::Got(next, Token::F32(x))
 }
 
 fn u64_token(r: ReadU64) -> ReadToken
     ensures { λ t. ⌜ tokenAnswer t ≡ placed (λ _. T.U64) (u64Answer r) ⌝ }
 {
     let ReadU64::Got(x, next) = r else {
-        return ReadToken::Refused(r.refusal());
+        return ReadToken::Eof(r.missing());
     };
-    ReadToken::Got(Token::U64(x), next)
+    ReadToken::Got(next, Token::U64(x))
 }
 
 fn i64_token(r: ReadI64) -> ReadToken
     ensures { λ t. ⌜ tokenAnswer t ≡ placed (λ _. T.I64) (i64Answer r) ⌝ }
 {
     let ReadI64::Got(x, next) = r else {
-        return ReadToken::Refused(r.refusal());
+        return ReadToken::Eof(r.missing());
     };
-    ReadToken::Got(Token::I64(x), next)
+    ReadToken::Got(next, Token::I64(x))
 }
 
 fn f64_token(r: ReadU64) -> ReadToken
     ensures { λ t. ⌜ tokenAnswer t ≡ placed (λ _. T.F64) (u64Answer r) ⌝ }
 {
     let ReadU64::Got(x, next) = r else {
-        return ReadToken::Refused(r.refusal());
+        return ReadToken::Eof(r.missing());
     };
-    ReadToken::Got(Token::F64(x), next)
+    ReadToken::Got(next, Token::F64(x))
 }
 
 fn bool_token(r: ReadBool) -> ReadToken
     ensures { λ t. ⌜ tokenAnswer t ≡ placed (λ _. T.Bool) (boolAnswer r) ⌝ }
 {
     let ReadBool::Got(x, next) = r else {
-        return ReadToken::Refused(r.refusal());
+        return ReadToken::Eof(r.missing());
     };
-    ReadToken::Got(Token::Bool(x), next)
+    ReadToken::Got(next, Token::Bool(x))
 }
 
 fn quoted_token(r: ReadString) -> ReadToken
     ensures { λ t. ⌜ tokenAnswer t ≡ placed (λ _. T.Quoted) (textAnswer r) ⌝ }
 {
     let ReadString::Got(x, next) = r else {
-        return ReadToken::Refused(r.refusal());
+        return ReadToken::Eof(r.missing());
     };
-    ReadToken::Got(Token::Quoted(x), next)
+    ReadToken::Got(next, Token::Quoted(x))
 }
 
 fn unquoted_token(r: ReadString) -> ReadToken
     ensures { λ t. ⌜ tokenAnswer t ≡ placed (λ _. T.Unquoted) (textAnswer r) ⌝ }
 {
     let ReadString::Got(x, next) = r else {
-        return ReadToken::Refused(r.refusal());
+        return ReadToken::Eof(r.missing());
     };
-    ReadToken::Got(Token::Unquoted(x), next)
+    ReadToken::Got(next, Token::Unquoted(x))
+}
+
+// No token, for a reason.
+fn refused(e: LexError) -> ReadToken
+    ensures { λ t. ⌜ tokenAnswer t ≡ refusedBy (faultOf e) ⌝ }
+{
+    match e {
+        LexError::Eof(missing) => ReadToken::Eof(missing),
+        LexError::InvalidRgb => ReadToken::InvalidRgb,
+    }
 }
 
 fn rgb_token(r: ReadRgb) -> ReadToken
     ensures { λ t. ⌜ tokenAnswer t ≡ placed tokenOf (rgbAnswer r) ⌝ }
 {
     let ReadRgb::Got(x, next) = r else {
-        return ReadToken::Refused(r.refusal());
+        return refused(r.refusal());
     };
-    ReadToken::Got(Token::Rgb(x), next)
+    ReadToken::Got(next, Token::Rgb(x))
 }
 
 fn lookup_u8_token(r: ReadU8) -> ReadToken
     ensures { λ t. ⌜ tokenAnswer t ≡ placed (λ _. T.Lookup) (u8Answer r) ⌝ }
 {
     let ReadU8::Got(x, next) = r else {
-        return ReadToken::Refused(r.refusal());
+        return ReadToken::Eof(r.missing());
     };
     let index = x as u32;
-    ReadToken::Got(Token::Lookup(index), next)
+    ReadToken::Got(next, Token::Lookup(index))
 }
 
 fn lookup_u16_token(r: ReadU16) -> ReadToken
     ensures { λ t. ⌜ tokenAnswer t ≡ placed (λ _. T.Lookup) (u16Answer r) ⌝ }
 {
     let ReadU16::Got(x, next) = r else {
-        return ReadToken::Refused(r.refusal());
+        return ReadToken::Eof(r.missing());
     };
     let index = x as u32;
-    ReadToken::Got(Token::Lookup(index), next)
+    ReadToken::Got(next, Token::Lookup(index))
 }
 
 fn lookup_token(r: ReadU32) -> ReadToken
     ensures { λ t. ⌜ tokenAnswer t ≡ placed (λ _. T.Lookup) (u32Answer r) ⌝ }
 {
     let ReadU32::Got(x, next) = r else {
-        return ReadToken::Refused(r.refusal());
+        return ReadToken::Eof(r.missing());
     };
-    ReadToken::Got(Token::Lookup(x), next)
+    ReadToken::Got(next, Token::Lookup(x))
 }
 
 // The empty string is its id alone: its text stands after it.
@@ -191,12 +205,18 @@ fn empty_token(next: usize) -> ReadToken
     ensures { λ t. ⌜ tokenAnswer t ≡ found (T.Quoted (record { start = next; len = 0 })) next ⌝ }
 {
     ReadToken::Got(
+        next,
         Token::Quoted(Text {
             start: next,
             len: 0,
         }),
-        next,
     )
+}
+
+fn compact_token(bytes: &[u8], at: usize, width: usize, negative: bool) -> ReadToken
+    ensures { λ t. ⌜ tokenAnswer t ≡ placed (λ _. T.F64) (compact width negative (now (bytes .entry)) at) ⌝ }
+{
+    f64_token(payload::read_compact_f64(&bytes[0..], at, width, negative))
 }
 
 // The token of an id that ends at a place. Reads that are compiled as calls get a slice of their own: the address of this one is then
@@ -206,9 +226,9 @@ fn by_id(bytes: &[u8], id: LexemeId, next: usize) -> ReadToken
 {
     let n = id.0;
     match n {
-        number::EQUAL => ReadToken::Got(Token::Equal, next),
-        number::OPEN => ReadToken::Got(Token::Open, next),
-        number::CLOSE => ReadToken::Got(Token::Close, next),
+        number::EQUAL => ReadToken::Got(next, Token::Equal),
+        number::OPEN => ReadToken::Got(next, Token::Open),
+        number::CLOSE => ReadToken::Got(next, Token::Close),
         number::U32 => u32_token(payload::read_u32(bytes, next)),
         number::I32 => i32_token(payload::read_i32(bytes, next)),
         number::F32 => f32_token(payload::read_f32(bytes, next)),
@@ -230,13 +250,13 @@ fn by_id(bytes: &[u8], id: LexemeId, next: usize) -> ReadToken
             lookup_token(payload::read_lookup_u32(bytes, next)),
         number::FIXED5_ZERO..=number::FIXED5_U56 => {
             let width = (n - number::FIXED5_ZERO) as usize;
-            f64_token(payload::read_compact_f64(&bytes[0..], next, width, false))
+            compact_token(bytes, next, width, false)
         }
         number::FIXED5_I8..=number::FIXED5_I56 => {
             let width = (n - number::FIXED5_U56) as usize;
-            f64_token(payload::read_compact_f64(&bytes[0..], next, width, true))
+            compact_token(bytes, next, width, true)
         }
-        _ => ReadToken::Got(Token::Id(n), next),
+        _ => ReadToken::Got(next, Token::Id(n)),
     }
 }
 
@@ -246,7 +266,7 @@ pub fn read_token(bytes: &[u8], at: usize) -> ReadToken
 {
     let r = payload::read_id(bytes, at);
     let ReadId::Got(id, next) = r else {
-        return ReadToken::Refused(r.refusal());
+        return ReadToken::Eof(r.missing());
     };
     by_id(bytes, id, next)
 }

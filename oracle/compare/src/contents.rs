@@ -22,7 +22,7 @@ pub fn holding(bytes: &[u8], position: u64) -> Result<Option<usize>, Answer> {
 fn tokens(bytes: &[u8]) -> Result<Vec<(usize, Token)>, Answer> {
     match original::tokens(bytes) {
         (tokens, end) if end.code == code::ANSWERED => Ok(tokens),
-        (_, end) => Err(Answer::refused(end.code, 0, end.words[1] as usize)),
+        (_, end) => Err(end.handed_on(0)),
     }
 }
 
@@ -129,9 +129,9 @@ mod tests {
     #[test]
     fn a_save_that_cannot_be_read_has_none() {
         let (eof, rgb) = (bytes("0128 0100 0f00 02"), bytes(&format!("0128 0100 4302 {}", "00".repeat(22))));
-        for (save, code) in [(eof, code::EOF), (rgb, code::INVALID_RGB)] {
-            assert_eq!(entries(&save), Err(Answer::refused(code, 0, 4)));
-            assert_eq!(holding(&save, 0), Err(Answer::refused(code, 0, 4)));
+        for (save, refused) in [(eof, Answer::eof(0, 4, 1)), (rgb, Answer::refused(code::INVALID_RGB, 0, 4))] {
+            assert_eq!(entries(&save), Err(refused));
+            assert_eq!(holding(&save, 0), Err(refused));
         }
     }
 

@@ -12,6 +12,6 @@ pub fn respelled(spelling: Spelling, bytes: &[u8]) -> Result<Vec<u8>, Answer> {
     }
     match end.code {
         code::ANSWERED => Ok(form),
-        code => Err(Answer::refused(code, 0, end.words[1] as usize)),
+        _ => Err(end.handed_on(0)),
     }
 }

@@ -2,6 +2,7 @@
 
 use crate::binary::{LexError, LexemeId, Lexer, LexerError, Token};
 use crate::counted::counted;
+use crate::missing;
 use crate::util::get_split;
 use protocol::{Answer, Call, Colour, Span, code};
 use std::hint::black_box;
@@ -33,7 +34,7 @@ pub fn lex(bytes: &[u8], at: usize, call: Call) -> Option<Answer> {
     Some(match got {
         Ok(Some(words)) => Answer::found(after, &words),
         Ok(None) => Answer::none(after),
-        Err(error) => refusal(error, after),
+        Err(error) => refusal(error, after, || missing::of_call(bytes, at, call)),
     })
 }
 
@@ -59,7 +60,7 @@ pub fn count_tokens(bytes: &[u8]) -> Answer {
                 seen = seen.wrapping_add(weight(token));
             }
             Ok(None) => break,
-            Err(error) => return refusal(error, lexer.position()),
+            Err(error) => return refused_token(bytes, error, lexer.position()),
         }
     }
     black_box(seen);
@@ -83,7 +84,7 @@ pub fn find_key(bytes: &[u8], at: usize, id: u16) -> Option<Answer> {
                 }
             }
             Ok(None) => return Some(Answer::none(at)),
-            Err(error) => return Some(refusal(error, at)),
+            Err(error) => return Some(refused_token(bytes, error, at)),
         }
     }
 }
@@ -112,7 +113,7 @@ pub fn contents(bytes: &[u8], list: &mut [Span]) -> Answer {
                 }
             }
             Ok(None) => break,
-            Err(error) => return refusal(error, 0),
+            Err(error) => return refused_token(bytes, error, 0),
         }
     }
     if let Some(start) = last {
@@ -158,7 +159,7 @@ pub fn skip_container(bytes: &[u8]) -> Answer {
     let mut lexer = Lexer::new(bytes);
     match lexer.skip_value(LexemeId::OPEN) {
         Ok(()) => Answer::found(lexer.position(), &[]),
-        Err(error) => refusal(error, lexer.position()),
+        Err(error) => refusal(error, lexer.position(), || missing::of_call(bytes, 0, Call::SkipContainer)),
     }
 }
 
@@ -179,12 +180,18 @@ fn weight(token: Token) -> u64 {
     }
 }
 
-pub(crate) fn refusal(error: LexerError, after: usize) -> Answer {
-    let code = match error.kind() {
-        LexError::Eof => code::EOF,
-        LexError::InvalidRgb => code::INVALID_RGB,
-    };
-    Answer::refused(code, after, error.position())
+/// Of a token that cannot be read.
+pub(crate) fn refused_token(bytes: &[u8], error: LexerError, after: usize) -> Answer {
+    let place = error.position();
+    refusal(error, after, || missing::of_call(bytes, place, Call::ReadToken))
+}
+
+/// What is missing at an end too soon is none of the original's words.
+fn refusal(error: LexerError, after: usize, missing: impl FnOnce() -> u64) -> Answer {
+    match error.kind() {
+        LexError::Eof => Answer::eof(after, error.position(), missing()),
+        LexError::InvalidRgb => Answer::refused(code::INVALID_RGB, after, error.position()),
+    }
 }
 
 type Value = [u64; 7];

@@ -5,6 +5,7 @@
 
 mod calls;
 mod counted;
+mod missing;
 mod requests;
 mod shims;
 mod write;

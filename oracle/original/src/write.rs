@@ -2,7 +2,7 @@
 
 use crate::Scalar;
 use crate::binary::{self, Lexer, Rgb};
-use crate::calls::refusal;
+use crate::calls::refused_token;
 use protocol::{Answer, Token, code};
 
 /// Writes into `out`; how many bytes, or nothing where it has no room (what was written stays).
@@ -46,7 +46,7 @@ pub fn tokens(bytes: &[u8]) -> (Vec<(usize, Token)>, Answer) {
                 let count = tokens.len() as u64;
                 return (tokens, Answer::found(at, &[count]));
             }
-            Err(error) => return (tokens, refusal(error, at)),
+            Err(error) => return (tokens, refused_token(bytes, error, at)),
         }
     }
 }
@@ -64,7 +64,7 @@ pub fn normalise(bytes: &[u8], out: &mut [u8]) -> Answer {
                 }
             }
             Ok(None) => return Answer::found(room - rest.len(), &[]),
-            Err(error) => return refusal(error, 0),
+            Err(error) => return refused_token(bytes, error, 0),
         }
     }
 }

@@ -74,7 +74,7 @@ fn source_lines(source: &Source, ops: &[Op]) -> String {
     let mut lines = Vec::new();
     for op in ops {
         match window.call(*op) {
-            Got::Refused { code: code::BAD_PLACE, position } => return format!("badplace {position}"),
+            Got::Refused { code: code::BAD_PLACE, position, .. } => return format!("badplace {position}"),
             got => lines.push(source_line(&got, &window.state())),
         }
     }

@@ -46,6 +46,17 @@ impl Answer {
         Answer { code, ..Answer::found(at, &[value as u64]) }
     }
 
+    /// With the position, and how many bytes the refused read misses.
+    pub fn eof(at: usize, position: usize, missing: u64) -> Answer {
+        Answer { code: code::EOF, ..Answer::found(at, &[position as u64, missing]) }
+    }
+
+    /// The same refusal, with all that it carries, of a call that ends with another cursor.
+    pub fn handed_on(mut self, at: usize) -> Answer {
+        self.words[0] = at as u64;
+        self
+    }
+
     /// A refusal that carries no number.
     pub fn bad_index() -> Answer {
         Answer::refused(code::BAD_INDEX, 0, 0)

@@ -26,7 +26,7 @@ pub fn lex_line(bytes: &[u8], call: Call, answer: &Answer) -> String {
         }
         code::NONE => format!("none at {at}"),
         code::BAD_PLACE => format!("badplace {refused}"),
-        code => format!("err {} {refused} at {at}", refusal(code)),
+        _ => format!("err {} at {at}", refused_words(answer)),
     }
 }
 
@@ -37,7 +37,7 @@ pub fn find_line(answer: &Answer) -> String {
         code::ANSWERED => format!("ok {value}"),
         code::NONE => "absent".to_string(),
         code::BAD_PLACE => format!("badplace {value}"),
-        code => format!("err {} {value}", refusal(code)),
+        _ => format!("err {}", refused_words(answer)),
     }
 }
 
@@ -48,18 +48,18 @@ pub fn output_line(answer: &Answer, out: &[u8]) -> String {
         code::ANSWERED => format!("ok {count} {}", hex(part(out, 0, count))),
         code::BAD_PLACE => format!("badplace {refused}"),
         code::BAD_INDEX => "badindex".to_string(),
-        code => format!("err {} {refused}", refusal(code)),
+        _ => format!("err {}", refused_words(answer)),
     }
 }
 
 /// The answer of a call that fills a list, with all records as it left them.
 pub fn contents_line(answer: &Answer, list: &[Span]) -> String {
-    let [count, refused, ..] = answer.words;
+    let count = answer.words[0];
     let list = list_words(list);
     match answer.code {
         code::ANSWERED => format!("ok {count} {list}"),
         code::BAD_INDEX => format!("badindex {list}"),
-        code => format!("err {} {refused} {list}", refusal(code)),
+        _ => format!("err {} {list}", refused_words(answer)),
     }
 }
 
@@ -94,6 +94,16 @@ pub fn fast_line(answer: &Answer, held: &[u8]) -> String {
 
 fn kind_name(kind: u64) -> &'static str {
     KINDS.get(kind as usize).copied().unwrap_or("unknown")
+}
+
+/// A refusal with its number; Eof has two.
+fn refused_words(answer: &Answer) -> String {
+    let [_, number, missing, ..] = answer.words;
+    let word = refusal(answer.code);
+    match answer.code {
+        code::EOF => format!("{word} {number} missing {missing}"),
+        _ => format!("{word} {number}"),
+    }
 }
 
 pub(crate) fn refusal(code: u32) -> String {

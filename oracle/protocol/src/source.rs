@@ -175,9 +175,11 @@ pub enum Got {
     /// A colour's words.
     Colour([u64; 5]),
     None,
+    /// Only Eof misses something; a request's answer does not say how much.
     Refused {
         code: u32,
         position: usize,
+        missing: usize,
     },
 }
 
@@ -191,7 +193,9 @@ impl Got {
             Got::Part(start, bytes) => Answer::found(after, &[*start as u64, bytes.len() as u64]),
             Got::Colour(words) => Answer::found(after, words),
             Got::None => Answer::none(after),
-            Got::Refused { code, position } => Answer::refused(*code, after, *position),
+            Got::Refused { code, position, missing } => {
+                Answer { code: *code, ..Answer::found(after, &[*position as u64, *missing as u64]) }
+            }
         }
     }
 
@@ -205,7 +209,7 @@ impl Got {
             (code::ANSWERED, Shape::Part) => Got::Part(first as usize, show::part(held, first, second).to_vec()),
             (code::ANSWERED, Shape::Colour) => Got::Colour([first, second, third, fourth, fifth]),
             (code::ANSWERED, _) => Got::Number(first as usize),
-            (code, _) => Got::Refused { code, position: first as usize },
+            (code, _) => Got::Refused { code, position: first as usize, missing: second as usize },
         }
     }
 }
@@ -237,7 +241,7 @@ fn got_words(got: &Got) -> String {
         Got::Part(_, bytes) => format!("ok {}", hex(bytes)),
         Got::Colour(words) => format!("ok {}", show::colour(words)),
         Got::None => "none".to_string(),
-        Got::Refused { code: code::BAD_PLACE, position } => format!("badplace {position}"),
-        Got::Refused { code, position } => format!("err {} {position}", show::refusal(*code)),
+        Got::Refused { code: code::BAD_PLACE, position, .. } => format!("badplace {position}"),
+        Got::Refused { code, position, .. } => format!("err {} {position}", show::refusal(*code)),
     }
 }

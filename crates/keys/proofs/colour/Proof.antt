@@ -1,18 +1,17 @@
 -- `keys::colour` meets its contract. Assumes nothing.
 use native.Mathlib.Omega.{arith}
-use mathlib.Core.Path.{refl}
 use borrow.Author.Needs.{needs}
 use borrow.Rule.Slice.PartAt.{part-to-end}
 use Rattle.form.specs.Values.{kind}
 use Rattle.payload.specs.Answers.{colourOf, rgbAnswer}
-use Rattle.payload.proofs.LetElse.{gotOf, elseOf}
+use Rattle.payload.proofs.LetElse.{gotOf, colour-else}
 use Rattle.keys.proofs.colour.Statement.{statement}
 use Rattle.keys.proofs.colour.Tie as tie
 
 returns : tie.Need-returns
 returns c =
-    let s = c .before .before .before .before .before .before .args .bytes .now in
-    record { is = elseOf rgbAnswer (rw (part-to-end s 0) at (c .before .before .before .read-rgb .ensures)) (c .before .enum-told .given .1) (c .refusal .ensures) refl }
+    let s = c .before .before .before .before .before .args .bytes .now in
+    record { is = colour-else (c .before .before .read-rgb .result) (c .before .match .keys2) (rw (part-to-end s 0) at (c .before .before .read-rgb .ensures)) (c .refusal .ensures) }
 
 returns-2 : tie.Need-returns-2
 unfolding kind
@@ -29,7 +28,6 @@ colour-spec =
     (λ c. search needs)
     (λ c. search needs)
     (λ c κs. search needs)
-    (λ c. search needs)
     (λ c. search needs)
     (λ c κs. search needs)
     returns

@@ -4,7 +4,7 @@ use mathlib.Core.Path.{refl, _∙_}
 use Rattle.form.specs.Readers.{andThen}
 use Rattle.form.proofs.Places.{by-id, token-then}
 use Rattle.payload.specs.Answers.{idAnswer}
-use Rattle.payload.proofs.LetElse.{gotOf, elseOf}
+use Rattle.payload.proofs.LetElse.{gotOf, lackOf}
 use Rattle.keys.proofs.Passing.{after-id}
 use Rattle.keys.proofs.pass.Statement.{statement}
 use Rattle.keys.proofs.pass.Tie as tie
@@ -12,7 +12,7 @@ use Rattle.keys.proofs.pass.Tie as tie
 returns : tie.Need-returns
 unfolding andThen
 returns c =
-    let e = elseOf idAnswer (c .before .before .before .read-id .ensures) (c .before .enum-told .given .1) (c .refusal .ensures) refl in
+    let e = lackOf idAnswer (c .before .before .before .read-id .ensures) (c .before .enum-told .given .1) (c .missing .ensures) refl in
     record { is = token-then _ _ ∙ rw e }
 
 returns-2 : tie.Need-returns-2

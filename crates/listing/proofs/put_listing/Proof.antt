@@ -6,7 +6,8 @@ use Prim.Native.Nat.{_+_, _-_, _≤_}
 use native.Mathlib.Omega.{arith}
 use lib.ListN.{length}
 use Rattle.form.specs.Listing.{listing}
-use Rattle.payload.proofs.LetElse.{gotOf, elseOf}
+use Rattle.payload.proofs.LetElse.{gotOf}
+use Rattle.token.proofs.LetElse.{token-else}
 use Rattle.form.proofs.Puts.{Left, left-all, left-step, left-last}
 use Rattle.token.specs.Tokens.{valueOf, tokenAnswer}
 use Rattle.token.proofs.Walks.{token-read, token-refused}
@@ -30,14 +31,15 @@ loop-holds c =
     rw (c .new .ensures) (omega arith, omega arith, sound-none, rw (← rest-all s) (left-all _ _ _ (omega arith)))
 
 same-length : tie.Need-same-length Inv-loop μ-loop
-same-length c = c .before .before .put-refusal .ensures .same ∙ c .before .before .before .before .before .before .before .before .before .loop .inv .3 .same
+same-length c = c .before .before .put-refusal .ensures .same ∙ c .before .before .before .before .before .before .before .before .loop .inv .3 .same
 
 returns : tie.Need-returns Inv-loop μ-loop
 returns c =
-    let l = c .before .before .before .before .before .before .before .before .before .loop in
-    let s = c .before .before .before .before .before .before .before .before .before .before .before .before .before .args .bytes .now in
-    let h = c .before .before .before .before .before .before .before .before .loop-test .taken in
-    let e = elseOf tokenAnswer (c .before .before .before .before .before .before .before .read-token .ensures) (c .before .before .before .before .before .enum-told .given .1) (c .before .before .before .refusal .ensures) refl in
+    let l = c .before .before .before .before .before .before .before .before .loop in
+    let s = c .before .before .before .before .before .before .before .before .before .before .before .before .args .bytes .now in
+    let h = c .before .before .before .before .before .before .before .loop-test .taken in
+    let r = c .before .before .before .before .before .before in
+    let e = token-else (r .read-token .result) (c .before .before .before .before .before .match .keys2) (r .read-token .ensures) (c .before .before .before .refusal .ensures) in
     left-last (l .inv .3) (c .before .before .put-refusal .ensures) (rest-refused s (l .at) (l .tally) (token-refused s (l .at) h e))
 
 after-requires : tie.Need-after-requires Inv-loop μ-loop
@@ -57,7 +59,7 @@ loop-again c =
     let e = gotOf tokenAnswer (c .before .before .before .before .before .before .before .before .read-token .ensures) (c .before .before .before .before .before .before .r .given .1) in
     let r = token-read s (l .at) e in
     let a = c .after .ensures in
-    let v = valueOf s (c .before .before .before .before .before .before .r .given .0 .0) in
+    let v = valueOf s (c .before .before .before .before .before .before .r .given .0 .1 .0) in
     let n : c .after .result .tokens ≡ l .tally .tokens + 1 = ap (λ (x : Tally). x .tokens) (a s) in
     (r .there, omega (arith, l .inv .1, r .on), rw (a s) (sound-step (l .tally) v (l .inv .2)), left-step _ (l .inv .3) (c .before .before .before .put-line .ensures) (rest-token s (l .at) (l .tally) e a))
 
@@ -78,7 +80,6 @@ put-listing-spec =
     (λ c κs. search needs)
     loop-holds
     (λ c κs. search needs)
-    (λ c. search needs)
     (λ c. search needs)
     (λ c κs. search needs)
     (λ c κs. search needs)

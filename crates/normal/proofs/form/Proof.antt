@@ -26,7 +26,7 @@ returns-2 c =
     let call = told .before .before .before .before in
     let start = call .before .before .before .before in
     let s = start .args .bytes .now in
-    lined s (start .args .out .now) (bytes-all s (call .before .before .before .shared-slice-known .given)) (start .pre) (R.Eof _)
+    lined s (start .args .out .now) (bytes-all s (call .before .before .before .shared-slice-known .given)) (start .pre) (R.Eof _ _)
     (sym (ap normalisedOutcome (told .p .given .1)) ∙ call .normalise .ensures .answer) (call .normalise .ensures .output)
     (omega arith) (c .before .before .put-error .ensures)
 

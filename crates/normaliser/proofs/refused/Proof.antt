@@ -6,11 +6,11 @@ use Rattle.normaliser.proofs.refused.Tie as tie
 
 returns : tie.Need-returns
 unfolding refusalAt
-returns c = rw (c .enum-told .given .1)
+returns c = rw (c .before .e .given .1)
 
 returns-2 : tie.Need-returns-2
 unfolding refusalAt
-returns-2 c = rw (c .enum-told2 .given .1)
+returns-2 c = rw (c .enum-told .given .1)
 
 pub refused-spec : {M : Type 1} → statement M
 refused-spec = tie.close (tie.spec (λ c. search needs) (λ c. search needs) returns returns-2)

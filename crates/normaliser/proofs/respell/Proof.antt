@@ -4,7 +4,8 @@ use Prim.Native.Nat.{_<_}
 use native.Mathlib.Omega.{arith}
 use mathlib.Core.Path.{refl}
 use lib.ListN.{length}
-use Rattle.payload.proofs.LetElse.{gotOf, elseOf}
+use Rattle.payload.proofs.LetElse.{gotOf}
+use Rattle.token.proofs.LetElse.{token-else}
 use Rattle.token.specs.Tokens.{tokenAnswer}
 use Rattle.normaliser.proofs.Respelling.{next-refused, next-written, next-counted, next-wide}
 use Rattle.normaliser.proofs.respell.Statement.{statement}
@@ -12,9 +13,9 @@ use Rattle.normaliser.proofs.respell.Tie as tie
 
 returns : tie.Need-returns
 returns c =
-    let a = c .before .before .before .before .before .before .before .args in
+    let a = c .before .before .before .before .before .before .args in
     let l : a .at < length (a .bytes .now) = omega arith in
-    let e = elseOf tokenAnswer (c .before .before .before .before .read-token .ensures) (c .before .before .enum-told .given .1) (c .before .refusal .ensures) refl in
+    let e = token-else (c .before .before .before .read-token .result) (c .before .before .match .keys2) (c .before .before .before .read-token .ensures) (c .before .refusal .ensures) in
     next-refused l e (c .refused .ensures)
 
 returns-2 : tie.Need-returns-2
@@ -34,7 +35,6 @@ respell-spec =
     tie.close
     (tie.spec
     (λ c κs. search needs)
-    (λ c. search needs)
     (λ c. search needs)
     (λ c κs. search needs)
     (λ c κs. search needs)

@@ -3,13 +3,13 @@ use mathlib.Core.Path.{refl}
 use Rattle.form.specs.Readers.{mapped}
 use borrow.Author.Needs.{needs}
 use Rattle.payload.specs.Answers.{u64Answer}
-use Rattle.payload.proofs.LetElse.{gotOf, elseOf}
+use Rattle.payload.proofs.LetElse.{gotOf, lackOf}
 use Rattle.payload.proofs.read_bool.Statement.{statement}
 use Rattle.payload.proofs.read_bool.Tie as tie
 
 returns : tie.Need-returns
 unfolding mapped
-returns c = rw (elseOf u64Answer (c .before .before .before .read-width .ensures) (c .before .enum-told .given .1) (c .refusal .ensures) refl)
+returns c = rw (lackOf u64Answer (c .before .before .before .read-width .ensures) (c .before .enum-told .given .1) (c .missing .ensures) refl)
 
 returns-2 : tie.Need-returns-2
 unfolding mapped

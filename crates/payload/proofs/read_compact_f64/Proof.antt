@@ -4,7 +4,7 @@ use mathlib.Core.Path.{refl, sym}
 use borrow.Author.Needs.{needs}
 use Rattle.form.specs.Readers.{mapped}
 use Rattle.payload.specs.Answers.{u64Answer}
-use Rattle.payload.proofs.LetElse.{gotOf, elseOf}
+use Rattle.payload.proofs.LetElse.{gotOf, lackOf}
 use Rattle.payload.proofs.Few.{at-most-7, few-below}
 use Rattle.payload.proofs.read_compact_f64.Statement.{statement}
 use Rattle.payload.proofs.read_compact_f64.Tie as tie
@@ -14,7 +14,7 @@ read-few-requires c κs = rw (c .capped .ensures) (at-most-7 (c .before .before 
 
 returns : tie.Need-returns
 unfolding mapped
-returns c = rw (sym (c .before .before .before .before .capped .ensures), elseOf u64Answer (c .before .before .before .read-few .ensures) (c .before .enum-told .given .1) (c .refusal .ensures) refl)
+returns c = rw (sym (c .before .before .before .before .capped .ensures), lackOf u64Answer (c .before .before .before .read-few .ensures) (c .before .enum-told .given .1) (c .missing .ensures) refl)
 
 negate-requires : tie.Need-negate-requires
 negate-requires c κs =

@@ -7,13 +7,13 @@ use Rattle.form.specs.Readers.{mapped}
 use Rattle.form.proofs.Places.{num-lt}
 use borrow.Author.Needs.{needs}
 use Rattle.payload.specs.Answers.{u64Answer}
-use Rattle.payload.proofs.LetElse.{gotOf, elseOf}
+use Rattle.payload.proofs.LetElse.{gotOf, lackOf}
 use Rattle.payload.proofs.read_i32.Statement.{statement}
 use Rattle.payload.proofs.read_i32.Tie as tie
 
 returns : tie.Need-returns
 unfolding mapped
-returns c = rw (elseOf u64Answer (c .before .before .before .read-width .ensures) (c .before .enum-told .given .1) (c .refusal .ensures) refl)
+returns c = rw (lackOf u64Answer (c .before .before .before .read-width .ensures) (c .before .enum-told .given .1) (c .missing .ensures) refl)
 
 signed32-requires : tie.Need-signed32-requires
 signed32-requires c κs =

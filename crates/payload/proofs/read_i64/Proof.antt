@@ -5,13 +5,13 @@ use mir.Val.{toZ, ofZ}
 use Rattle.form.specs.Readers.{mapped}
 use borrow.Author.Needs.{needs}
 use Rattle.payload.specs.Answers.{u64Answer}
-use Rattle.payload.proofs.LetElse.{gotOf, elseOf}
+use Rattle.payload.proofs.LetElse.{gotOf, lackOf}
 use Rattle.payload.proofs.read_i64.Statement.{statement}
 use Rattle.payload.proofs.read_i64.Tie as tie
 
 returns : tie.Need-returns
 unfolding mapped
-returns c = rw (elseOf u64Answer (c .before .before .before .read-width .ensures) (c .before .enum-told .given .1) (c .refusal .ensures) refl)
+returns c = rw (lackOf u64Answer (c .before .before .before .read-width .ensures) (c .before .enum-told .given .1) (c .missing .ensures) refl)
 
 returns-2 : tie.Need-returns-2
 unfolding mapped

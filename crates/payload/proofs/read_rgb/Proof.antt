@@ -1,13 +1,13 @@
 -- `payload::read_rgb` meets its contract. Assumes nothing.
 use native.Mathlib.Omega.{arith}
-use mathlib.Core.Path.{ap, _∙_}
+use mathlib.Core.Path.{sym, ap, _∙_}
 use lib.ListN.{length, length-drop}
 use borrow.Author.Needs.{needs}
 use Rattle.form.specs.Readers.{further}
 use Rattle.form.specs.Reading.{rgb}
 use Rattle.split.proofs.Enough.{rest-drop}
 use Rattle.payload.specs.Answers.{rgbAnswer}
-use Rattle.payload.proofs.LetElse.{gotOf}
+use Rattle.payload.proofs.LetElse.{gotOf, unread-colour}
 use Rattle.payload.proofs.Rests.{from-rest, colour-in}
 use Rattle.payload.proofs.read_rgb.Statement.{statement}
 use Rattle.payload.proofs.read_rgb.Tie as tie
@@ -15,9 +15,9 @@ use Rattle.payload.proofs.read_rgb.Tie as tie
 returns : tie.Need-returns
 unfolding further
 returns c =
-    let a = c .before .before .before .before .before .args in
-    let e = c .enum-told .given .1 in
-    ap rgbAnswer e ∙ from-rest rgb (a .bytes .now) (a .at) (c .before .before .before .split-rest .ensures) (gotOf rgbAnswer (c .before .before .read-colour .ensures) e)
+    let a = c .before .before .before .before .args in
+    let n = unread-colour (c .before .read-colour .result) (c .match .keys2) in
+    n ∙ from-rest rgb (a .bytes .now) (a .at) (c .before .before .split-rest .ensures) (sym (c .before .read-colour .ensures) ∙ n)
 
 add-next : tie.Need-add-next
 add-next c =
@@ -38,7 +38,6 @@ read-rgb-spec =
     (tie.spec
     (λ c κs. search needs)
     (λ c κs. search needs)
-    (λ c. search needs)
     (λ c. search needs)
     returns
     add-next

@@ -4,17 +4,17 @@ use Rattle.form.specs.Readers.{andThen, placed}
 use Rattle.form.proofs.Places.{string-then}
 use borrow.Author.Needs.{needs}
 use Rattle.payload.specs.Answers.{u64Answer, textAnswer}
-use Rattle.payload.proofs.LetElse.{gotOf, elseOf}
+use Rattle.payload.proofs.LetElse.{gotOf, lackOf}
 use Rattle.payload.proofs.read_string.Statement.{statement}
 use Rattle.payload.proofs.read_string.Tie as tie
 
 returns : tie.Need-returns
 unfolding placed andThen
-returns c = rw (string-then, elseOf u64Answer (c .before .before .before .read-width .ensures) (c .before .enum-told .given .1) (c .refusal .ensures) refl)
+returns c = rw (string-then, lackOf u64Answer (c .before .before .before .read-width .ensures) (c .before .enum-told .given .1) (c .missing .ensures) refl)
 
 returns-2 : tie.Need-returns-2
 unfolding andThen
-returns-2 c = rw (string-then, gotOf u64Answer (c .before .before .before .before .before .before .before .read-width .ensures) (c .before .before .before .before .before .r .given .1), elseOf textAnswer (c .before .before .before .read-bytes .ensures) (c .before .enum-told2 .given .1) (c .refusal2 .ensures) refl)
+returns-2 c = rw (string-then, gotOf u64Answer (c .before .before .before .before .before .before .before .read-width .ensures) (c .before .before .before .before .before .r .given .1), lackOf textAnswer (c .before .before .before .read-bytes .ensures) (c .before .enum-told2 .given .1) (c .missing2 .ensures) refl)
 
 returns-3 : tie.Need-returns-3
 unfolding andThen

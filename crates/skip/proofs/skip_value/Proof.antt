@@ -2,7 +2,7 @@
 use mathlib.Core.Path.{refl, sym, _∙_}
 use borrow.Author.Tests.{eqb-false}
 use Rattle.payload.specs.Answers.{rgbAnswer}
-use Rattle.payload.proofs.LetElse.{gotOf, elseOf}
+use Rattle.payload.proofs.LetElse.{gotOf, colour-else}
 use Rattle.skip.proofs.Turns.{value-is, past-colour, no-colour}
 use borrow.Author.Needs.{needs}
 use Rattle.skip.proofs.skip_value.Statement.{statement}
@@ -10,8 +10,8 @@ use Rattle.skip.proofs.skip_value.Tie as tie
 
 returns : tie.Need-returns
 returns c =
-    let is = sym (c .before .before .before .before .before .is .ensures) ∙ c .before .before .before .before .if1 .taken in
-    sym (no-colour _ _ _ is (elseOf rgbAnswer (c .before .before .before .read-rgb .ensures) (c .before .enum-told .given .1) (c .refusal .ensures) refl))
+    let is = sym (c .before .before .before .before .is .ensures) ∙ c .before .before .before .if1 .taken in
+    sym (no-colour _ _ _ is (colour-else (c .before .before .read-rgb .result) (c .before .match .keys2) (c .before .before .read-rgb .ensures) (c .refusal .ensures)))
 
 returns-2 : tie.Need-returns-2
 returns-2 c =
@@ -27,7 +27,6 @@ skip-value-spec =
     (tie.spec
     (λ c κs. search needs)
     (λ c κs. search needs)
-    (λ c. search needs)
     (λ c. search needs)
     (λ c κs. search needs)
     returns

@@ -110,16 +110,16 @@ returns-18 c = by-entry _ _ (lookup4-at (c .before .before .match .keys18)) (num
 returns-19 : tie.Need-returns-19
 unfolding entries table tokenOf
 returns-19 c =
-    let a = c .before .before .before .before .before .before .before .args in
-    by-entry _ _ (compact-at _ (c .before .before .before .before .before .match .rest) (c .before .before .before .before .if1 .left) (c .before .before .before .if2 .taken) ∙ compact-is _ _ false (c .before .before .before .if2 .taken))
-    (compact-from (a .bytes .now) (a .next) (a .id .0 - 0x0d47) false (rw (part-to-end (a .bytes .now) 0) at (c .before .read-compact-f64 .ensures)) (c .f64-token2 .ensures))
+    let a = c .before .before .before .before .before .args in
+    by-entry _ _ (compact-at _ (c .before .before .before .match .rest) (c .before .before .if1 .left) (c .before .if2 .taken) ∙ compact-is _ _ false (c .before .if2 .taken))
+    (compact-from (a .bytes .now) (a .next) (a .id .0 - 0x0d47) false (c .compact-token .ensures))
 
 returns-20 : tie.Need-returns-20
 unfolding entries table tokenOf
 returns-20 c =
-    let a = c .before .before .before .before .before .before .before .before .args in
-    by-entry _ _ (negated-in _ (c .before .before .before .before .if2 .left) (c .before .before .before .if3 .taken) ∙ compact-is _ _ true (c .before .before .before .if3 .taken))
-    (compact-from (a .bytes .now) (a .next) (a .id .0 - 0x0d4e) true (rw (part-to-end (a .bytes .now) 0) at (c .before .read-compact-f642 .ensures)) (c .f64-token3 .ensures))
+    let a = c .before .before .before .before .before .before .args in
+    by-entry _ _ (negated-in _ (c .before .before .if2 .left) (c .before .if3 .taken) ∙ compact-is _ _ true (c .before .if3 .taken))
+    (compact-from (a .bytes .now) (a .next) (a .id .0 - 0x0d4e) true (c .compact-token2 .ensures))
 
 returns-21 : tie.Need-returns-21
 unfolding entries table tokenOf
@@ -176,17 +176,9 @@ by-id-spec =
     (λ c κs. search needs)
     sub-width
     cast-width
-    (λ c. search needs)
-    (λ c. search needs)
-    (λ c. search needs)
-    (λ c κs. search needs)
     (λ c κs. search needs)
     (λ c. search needs)
     cast-width-2
-    (λ c. search needs)
-    (λ c. search needs)
-    (λ c. search needs)
-    (λ c κs. search needs)
     (λ c κs. search needs)
     returns
     returns-2

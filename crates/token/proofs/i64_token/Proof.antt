@@ -10,7 +10,7 @@ use Rattle.token.proofs.i64_token.Statement.{statement}
 use Rattle.token.proofs.i64_token.Tie as tie
 
 returns : tie.Need-returns
-returns c = refusing i64Answer (λ _. T.I64) (c .before .enum-told .given .1) (c .refusal .ensures) refl
+returns c = refusing i64Answer (λ _. T.I64) (c .before .enum-told .given .1) (c .missing .ensures) refl
 
 returns-2 : tie.Need-returns-2
 returns-2 c =

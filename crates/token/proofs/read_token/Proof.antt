@@ -6,7 +6,7 @@ use Rattle.token.proofs.read_token.Statement.{statement}
 use Rattle.token.proofs.read_token.Tie as tie
 
 returns : tie.Need-returns
-returns c = no-id _ _ (c .before .before .before .read-id .ensures) (c .before .enum-told .given .1) (c .refusal .ensures) refl
+returns c = no-id _ _ (c .before .before .before .read-id .ensures) (c .before .enum-told .given .1) (c .missing .ensures) refl
 
 returns-2 : tie.Need-returns-2
 returns-2 c = after-id _ _ (c .before .before .before .before .read-id .ensures) (c .before .before .r .given .1) (c .by-id .ensures)

@@ -153,7 +153,7 @@ fn along(sample: &mut Sample, source: Source, ops: Vec<Op>) {
 /// Answers the source as the call leaves it.
 fn call(sample: &mut Sample, source: &Source, op: Op) -> Source {
     let (got, after) = match source.bad_place() {
-        Some(position) => (Got::Refused { code: code::BAD_PLACE, position }, source.clone()),
+        Some(position) => (Got::Refused { code: code::BAD_PLACE, position, missing: 0 }, source.clone()),
         None => by_original(source, op),
     };
     let output = left(&after.buffer, after.words());

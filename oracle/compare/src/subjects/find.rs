@@ -48,7 +48,11 @@ impl Case for Find<'_> {
         let answer = match key {
             Some((place, _)) => Answer::found(*at, &[(at + place) as u64]),
             None if end.code == code::ANSWERED => Answer::none(*at),
-            None => Answer::refused(end.code, *at, at + end.words[1] as usize),
+            None => {
+                let mut refused = end.handed_on(*at);
+                refused.words[1] += *at as u64;
+                refused
+            }
         };
         answer.into()
     }

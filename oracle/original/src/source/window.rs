@@ -2,6 +2,7 @@
 
 use super::{Backing, BinarySourceExt, ParserError, ParserSource};
 use crate::counted::counted;
+use crate::missing;
 use crate::shims::Error;
 use protocol::{Colour, Got, Numbers, Op, Source, State, code};
 use std::cell::Cell;
@@ -77,9 +78,24 @@ impl<'a> Window<'a> {
 
     /// Nothing where the original has no such operation (`has_op`).
     pub fn call(&mut self, op: Op) -> Option<Got> {
+        let before = self.source.position();
         let got = self.got(op)?;
+        Some(got.unwrap_or_else(|error| self.refused(error, op, before)))
+    }
+
+    /// What is missing at an end too soon is none of the original's words.
+    fn refused(&self, error: Error, op: Op, before: usize) -> Got {
         let position = self.source.position();
-        Some(got.unwrap_or_else(|error| refused(error, position)))
+        let refused = |code| Got::Refused { code, position, missing: 0 };
+        match error {
+            Error::Syntax { offset } => Got::Refused { code: code::INVALID_RGB, position: offset, missing: 0 },
+            Error::Source(ParserError::BufferTooSmall) => refused(code::BUFFER_TOO_SMALL),
+            Error::Source(error) if error.is_eof() => {
+                let missing = missing::of_source(op, position.wrapping_sub(before), self.source.window());
+                Got::Refused { code: code::EOF, position, missing }
+            }
+            Error::Source(_) => refused(code::READ_FAILED),
+        }
     }
 
     fn got(&mut self, op: Op) -> Option<Result<Got, Error>> {
@@ -144,14 +160,4 @@ fn plain<T>(found: Result<T, ParserError>, got: impl Fn(T) -> Got) -> Result<Got
 
 fn optional<T>(found: Result<Option<T>, ParserError>, got: impl Fn(T) -> Got) -> Result<Got, Error> {
     Ok(found?.map_or(Got::None, got))
-}
-
-fn refused(error: Error, position: usize) -> Got {
-    let (code, position) = match error {
-        Error::Syntax { offset } => (code::INVALID_RGB, offset),
-        Error::Source(ParserError::BufferTooSmall) => (code::BUFFER_TOO_SMALL, position),
-        Error::Source(error) if error.is_eof() => (code::EOF, position),
-        Error::Source(_) => (code::READ_FAILED, position),
-    };
-    Got::Refused { code, position }
 }

@@ -6,7 +6,8 @@ use mathlib.Core.Path.{_≡_, refl, sym, _∙_}
 use lib.ListN.{length}
 use borrow.Author.Needs.{needs}
 use Rattle.form.proofs.Walking.{from}
-use Rattle.payload.proofs.LetElse.{gotOf, elseOf}
+use Rattle.payload.proofs.LetElse.{gotOf}
+use Rattle.token.proofs.LetElse.{token-else}
 use Rattle.token.specs.Tokens.{tokenAnswer}
 use Rattle.token.proofs.Walks.{token-read}
 use Rattle.lexer.specs.Calls.{refusalOf}
@@ -27,8 +28,8 @@ loop-holds c = (zero-le, zero-le, at-start _)
 returns : tie.Need-returns Inv-loop μ-loop
 unfolding refusalOf
 returns c =
-    let e = elseOf tokenAnswer (c .before .before .before .before .read-token .ensures) (c .before .before .enum-told .given .1) (c .before .refusal .ensures) refl in
-    c .refused .ensures ∙ cut-off _ _ (c .before .before .before .before .before .loop-test .taken) e _ ∙ c .before .before .before .before .before .before .loop .inv .2
+    let e = token-else (c .before .before .before .read-token .result) (c .before .before .match .keys2) (c .before .before .before .read-token .ensures) (c .before .refusal .ensures) in
+    c .refused .ensures ∙ cut-off _ _ (c .before .before .before .before .loop-test .taken) e _ ∙ c .before .before .before .before .before .loop .inv .2
 
 loop-less : tie.Need-loop-less Inv-loop μ-loop
 loop-less c =
@@ -51,7 +52,6 @@ count-spec =
     μ-loop
     loop-holds
     (λ c κs. search needs)
-    (λ c. search needs)
     (λ c. search needs)
     (λ c κs. search needs)
     (λ c κs. search needs)

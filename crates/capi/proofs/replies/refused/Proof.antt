@@ -7,11 +7,11 @@ use Rattle.capi.proofs.replies.refused.Tie as tie
 
 returns : tie.Need-returns
 unfolding refusalOf refusalAt refusalNumber refusalValues
-returns c = rw (c .before .before .before .before .x .given .1, c .before .enum-told .given .1) (c .coded .ensures)
+returns c = rw (c .before .before .before .before .before .x .given .1, c .before .before .k .given .1) (c .coded .ensures)
 
 returns-2 : tie.Need-returns-2
 unfolding refusalOf refusalAt refusalNumber refusalValues
-returns-2 c = rw (c .before .before .before .before .x .given .1, c .before .enum-told2 .given .1) (c .coded2 .ensures)
+returns-2 c = rw (c .before .before .before .before .x .given .1, c .before .enum-told .given .1) (c .coded2 .ensures)
 
 returns-3 : tie.Need-returns-3
 unfolding refusalOf refusalNumber refusalValues

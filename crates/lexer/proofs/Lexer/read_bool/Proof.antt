@@ -6,13 +6,13 @@ use Rattle.form.specs.Readers.{at}
 use Rattle.form.specs.Reading.{num}
 use Rattle.form.proofs.Inside.{inside-mapped, num-inside}
 use Rattle.payload.specs.Answers.{boolAnswer}
-use Rattle.payload.proofs.LetElse.{gotOf, elseOf}
+use Rattle.payload.proofs.LetElse.{gotOf, lackOf}
 use Rattle.lexer.proofs.Endings.{got, cut}
 use Rattle.lexer.proofs.Lexer.read_bool.Statement.{statement}
 use Rattle.lexer.proofs.Lexer.read_bool.Tie as tie
 
 returns : tie.Need-returns
-returns c = cut _ _ _ (elseOf boolAnswer (c .before .before .before .before .read-bool .ensures) (c .before .before .enum-told .given .1) (c .before .refusal .ensures) refl) (c .refused .ensures)
+returns c = cut _ _ _ (lackOf boolAnswer (c .before .before .before .before .read-bool .ensures) (c .before .before .enum-told .given .1) (c .before .missing .ensures) refl) (c .refused .ensures)
 
 returns-2 : tie.Need-returns-2
 returns-2 c = got _ _ _ (inside-mapped (at (num 1)) _ (num-inside 1 (omega arith))) (gotOf boolAnswer (c .before .before .before .before .read-bool .ensures) (c .before .before .r .given .1)) (c .moved .ensures)

@@ -3,7 +3,7 @@ use borrow.Author.Needs.{needs}
 use mathlib.Core.Path.{refl}
 use Rattle.form.specs.Calls.{reads}
 use Rattle.payload.specs.Answers.{textAnswer}
-use Rattle.payload.proofs.LetElse.{gotOf, elseOf}
+use Rattle.payload.proofs.LetElse.{gotOf, lackOf}
 use Rattle.lexer.specs.Calls.{placeCall, bytesAt}
 use Rattle.lexer.proofs.Endings.{told, inside, outside, inside-got, inside-cut}
 use Rattle.lexer.proofs.Lexer.read_bytes.Statement.{statement}
@@ -12,7 +12,7 @@ use Rattle.lexer.proofs.Lexer.read_bytes.Tie as tie
 returns : tie.Need-returns
 returns c =
     let h = inside _ _ (told (placeCall _) (c .before .before .before .before .before .before .before .place .ensures) (c .before .before .before .before .before .enum-told .given .1)) in
-    inside-cut (bytesAt _) _ _ h (elseOf textAnswer (c .before .before .before .before .read-bytes .ensures) (c .before .before .enum-told2 .given .1) (c .before .refusal .ensures) refl) (c .located .ensures)
+    inside-cut (bytesAt _) _ _ h (lackOf textAnswer (c .before .before .before .before .read-bytes .ensures) (c .before .before .enum-told2 .given .1) (c .before .missing .ensures) refl) (c .located .ensures)
 
 returns-2 : tie.Need-returns-2
 returns-2 c =

@@ -4,13 +4,13 @@ use native.Mathlib.Omega.{arith}
 use mathlib.Core.Path.{refl}
 use Rattle.form.proofs.Inside.{num-inside}
 use Rattle.payload.specs.Answers.{idAnswer}
-use Rattle.payload.proofs.LetElse.{gotOf, elseOf}
+use Rattle.payload.proofs.LetElse.{gotOf, lackOf}
 use Rattle.lexer.proofs.Endings.{got, cut}
 use Rattle.lexer.proofs.Lexer.read_id.Statement.{statement}
 use Rattle.lexer.proofs.Lexer.read_id.Tie as tie
 
 returns : tie.Need-returns
-returns c = cut _ _ _ (elseOf idAnswer (c .before .before .before .before .read-id .ensures) (c .before .before .enum-told .given .1) (c .before .refusal .ensures) refl) (c .refused .ensures)
+returns c = cut _ _ _ (lackOf idAnswer (c .before .before .before .before .read-id .ensures) (c .before .before .enum-told .given .1) (c .before .missing .ensures) refl) (c .refused .ensures)
 
 returns-2 : tie.Need-returns-2
 returns-2 c = got _ _ _ (num-inside 2 (omega arith)) (gotOf idAnswer (c .before .before .before .before .read-id .ensures) (c .before .before .r .given .1)) (c .moved .ensures)

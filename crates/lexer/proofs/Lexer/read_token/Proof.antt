@@ -2,13 +2,14 @@
 use borrow.Author.Needs.{needs}
 use mathlib.Core.Path.{refl}
 use Rattle.token.specs.Tokens.{tokenAnswer}
-use Rattle.payload.proofs.LetElse.{gotOf, elseOf}
+use Rattle.payload.proofs.LetElse.{gotOf}
+use Rattle.token.proofs.LetElse.{token-else}
 use Rattle.lexer.proofs.Endings.{token-begins, got, cut}
 use Rattle.lexer.proofs.Lexer.read_token.Statement.{statement}
 use Rattle.lexer.proofs.Lexer.read_token.Tie as tie
 
 returns : tie.Need-returns
-returns c = cut _ _ _ (elseOf tokenAnswer (c .before .before .before .before .read-token .ensures) (c .before .before .enum-told .given .1) (c .before .refusal .ensures) refl) (c .refused .ensures)
+returns c = cut _ _ _ (token-else (c .before .before .before .read-token .result) (c .before .before .match .keys2) (c .before .before .before .read-token .ensures) (c .before .refusal .ensures)) (c .refused .ensures)
 
 returns-2 : tie.Need-returns-2
 returns-2 c = got _ _ _ token-begins (gotOf tokenAnswer (c .before .before .before .before .read-token .ensures) (c .before .before .r .given .1)) (c .moved .ensures)
@@ -18,7 +19,6 @@ read-token-spec =
     tie.close
     (tie.spec
     (λ c κs. search needs)
-    (λ c. search needs)
     (λ c. search needs)
     (λ c κs. search needs)
     (λ c κs. search needs)

@@ -6,7 +6,8 @@ use native.Mathlib.Omega.{arith}
 use lib.ListN.{length}
 use mathlib.Core.Path.{refl}
 use Rattle.form.proofs.LittleEndian.{bytes-all}
-use Rattle.payload.proofs.LetElse.{gotOf, elseOf}
+use Rattle.payload.proofs.LetElse.{gotOf}
+use Rattle.token.proofs.LetElse.{token-else}
 use Rattle.token.specs.Tokens.{tokenAnswer}
 use Rattle.normaliser.specs.Stretches.{shortStyle}
 use Rattle.normaliser.proofs.Steps.{token-spellable}
@@ -26,8 +27,8 @@ loop-holds c = going-start _ _ (omega arith)
 
 returns : tie.Need-returns Inv-loop μ-loop
 returns c =
-    let r = c .before .before .before .before in
-    let e = elseOf tokenAnswer (r .read-token .ensures) (c .before .before .enum-told .given .1) (c .before .refusal .ensures) refl in
+    let r = c .before .before .before in
+    let e = token-else (r .read-token .result) (c .before .before .match .keys2) (r .read-token .ensures) (c .before .refusal .ensures) in
     going-stopped (r .before .before .loop .inv) (next-refused (r .before .loop-test .taken) e (c .refused .ensures)) _
 
 append-requires : tie.Need-append-requires Inv-loop μ-loop
@@ -67,7 +68,6 @@ pass-spec =
     μ-loop
     loop-holds
     (λ c κs. search needs)
-    (λ c. search needs)
     (λ c. search needs)
     (λ c κs. search needs)
     (λ c κs. search needs)

@@ -15,4 +15,4 @@ returns-2 c = (_, gotOf rgbAnswer (rw (part-to-end (c .before .before .before .b
 pub colour-spec : {M : Type 1} → statement M
 colour-spec =
     tie.close
-    (tie.spec (λ c. search needs) (λ c. search needs) (λ c. search needs) (λ c κs. search needs) (λ c. search needs) (λ c. search needs) returns returns-2)
+    (tie.spec (λ c. search needs) (λ c. search needs) (λ c. search needs) (λ c κs. search needs) (λ c. search needs) returns returns-2)

@@ -4,19 +4,19 @@ use borrow.Author.Needs.{needs}
 use Rattle.form.specs.Readers.{andThen}
 use Rattle.form.proofs.Places.{channel-then}
 use Rattle.payload.specs.Answers.{u32Answer, idAnswer}
-use Rattle.payload.proofs.LetElse.{gotOf, elseOf}
+use Rattle.payload.proofs.LetElse.{gotOf, lackOf}
 use Rattle.payload.proofs.colour.read_channel.Statement.{statement}
 use Rattle.payload.proofs.colour.read_channel.Tie as tie
 
 returns : tie.Need-returns
 unfolding andThen
-returns c = rw (channel-then, elseOf idAnswer (c .before .before .before .read-id .ensures) (c .before .enum-told .given .1) (c .refusal .ensures) refl)
+returns c = rw (channel-then, lackOf idAnswer (c .before .before .before .read-id .ensures) (c .before .enum-told .given .1) (c .missing .ensures) refl)
 
 returns-2 : tie.Need-returns-2
 unfolding andThen
 returns-2 c =
     let b1 = c .before .before .before .before .before in
-    rw (channel-then, gotOf idAnswer (b1 .before .before .read-id .ensures) (b1 .first .given .1), elseOf u32Answer (c .before .before .before .read-u32 .ensures) (c .before .enum-told2 .given .1) (c .refusal2 .ensures) refl)
+    rw (channel-then, gotOf idAnswer (b1 .before .before .read-id .ensures) (b1 .first .given .1), lackOf u32Answer (c .before .before .before .read-u32 .ensures) (c .before .enum-told2 .given .1) (c .missing2 .ensures) refl)
 
 returns-3 : tie.Need-returns-3
 unfolding andThen

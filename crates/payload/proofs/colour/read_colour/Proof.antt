@@ -1,67 +1,20 @@
 -- `payload::colour::read_colour` meets its contract. Assumes nothing.
-use mathlib.Core.Path.{refl, sym}
+use mathlib.Core.Path.{refl, sym, _∙_}
 use borrow.Author.Needs.{needs}
-use Rattle.form.specs.Readers.{andThen}
-use Rattle.form.proofs.Places.{rgb-then}
-use Rattle.payload.specs.Answers.{idAnswer}
-use Rattle.payload.specs.Colour.{channelAnswer}
-use Rattle.payload.proofs.LetElse.{gotOf, elseOf}
+use Rattle.form.specs.Reading.{rgb}
+use Rattle.payload.specs.Answers.{textAnswer, textOf}
+use Rattle.payload.proofs.LetElse.{gotOf, lackOf}
+use Rattle.payload.proofs.Pieces.{piece-not, piece-there}
 use Rattle.payload.proofs.colour.read_colour.Statement.{statement}
 use Rattle.payload.proofs.colour.read_colour.Tie as tie
 
 returns : tie.Need-returns
-unfolding andThen
-returns c = rw (rgb-then, elseOf idAnswer (c .before .before .before .read-id .ensures) (c .before .enum-told .given .1) (c .refusal .ensures) refl)
+unfolding rgb
+returns c = sym (piece-not textOf 22 _ _ _ (lackOf textAnswer (c .before .before .before .read-bytes .ensures) (c .before .enum-told2 .given .1) (c .missing .ensures) refl))
 
 returns-2 : tie.Need-returns-2
-unfolding andThen
-returns-2 c =
-    let b1 = c .before .before .before .before .before in
-    rw (rgb-then, gotOf idAnswer (b1 .before .before .read-id .ensures) (b1 .first .given .1), elseOf channelAnswer (c .before .before .before .read-channel .ensures) (c .before .enum-told2 .given .1) (c .refusal2 .ensures) refl)
-
-returns-3 : tie.Need-returns-3
-unfolding andThen
-returns-3 c =
-    let b2 = c .before .before .before .before .before in
-    let b1 = b2 .before .before .before .before in
-    rw (rgb-then, gotOf idAnswer (b1 .before .before .read-id .ensures) (b1 .first .given .1), gotOf channelAnswer (b2 .before .before .read-channel .ensures) (b2 .red .given .1), elseOf channelAnswer (c .before .before .before .read-channel2 .ensures) (c .before .enum-told3 .given .1) (c .refusal3 .ensures) refl)
-
-returns-4 : tie.Need-returns-4
-unfolding andThen
-returns-4 c =
-    let b3 = c .before .before .before .before .before in
-    let b2 = b3 .before .before .before .before in
-    let b1 = b2 .before .before .before .before in
-    rw (rgb-then, gotOf idAnswer (b1 .before .before .read-id .ensures) (b1 .first .given .1), gotOf channelAnswer (b2 .before .before .read-channel .ensures) (b2 .red .given .1), gotOf channelAnswer (b3 .before .before .read-channel2 .ensures) (b3 .green .given .1), elseOf channelAnswer (c .before .before .before .read-channel3 .ensures) (c .before .enum-told4 .given .1) (c .refusal4 .ensures) refl)
-
-returns-5 : tie.Need-returns-5
-unfolding andThen
-returns-5 c =
-    let b4 = c .before .before .before .before .before in
-    let b3 = b4 .before .before .before .before in
-    let b2 = b3 .before .before .before .before in
-    let b1 = b2 .before .before .before .before in
-    rw (rgb-then, gotOf idAnswer (b1 .before .before .read-id .ensures) (b1 .first .given .1), gotOf channelAnswer (b2 .before .before .read-channel .ensures) (b2 .red .given .1), gotOf channelAnswer (b3 .before .before .read-channel2 .ensures) (b3 .green .given .1), gotOf channelAnswer (b4 .before .before .read-channel3 .ensures) (b4 .blue .given .1), elseOf idAnswer (c .before .before .before .read-id2 .ensures) (c .before .enum-told5 .given .1) (c .refusal5 .ensures) refl)
-
-returns-6 : tie.Need-returns-6
-unfolding andThen
-returns-6 c =
-    let b5 = c .before .before .before .before in
-    let b4 = b5 .before .before .before .before in
-    let b3 = b4 .before .before .before .before in
-    let b2 = b3 .before .before .before .before in
-    let b1 = b2 .before .before .before .before in
-    rw (rgb-then, gotOf idAnswer (b1 .before .before .read-id .ensures) (b1 .first .given .1), gotOf channelAnswer (b2 .before .before .read-channel .ensures) (b2 .red .given .1), gotOf channelAnswer (b3 .before .before .read-channel2 .ensures) (b3 .green .given .1), gotOf channelAnswer (b4 .before .before .read-channel3 .ensures) (b4 .blue .given .1), gotOf idAnswer (b5 .before .before .read-id2 .ensures) (b5 .last .given .1), sym (c .before .before .begins .ensures), c .before .if1 .taken) (c .closing .ensures)
-
-returns-7 : tie.Need-returns-7
-unfolding andThen
-returns-7 c =
-    let b5 = c .before .before .before in
-    let b4 = b5 .before .before .before .before in
-    let b3 = b4 .before .before .before .before in
-    let b2 = b3 .before .before .before .before in
-    let b1 = b2 .before .before .before .before in
-    rw (rgb-then, gotOf idAnswer (b1 .before .before .read-id .ensures) (b1 .first .given .1), gotOf channelAnswer (b2 .before .before .read-channel .ensures) (b2 .red .given .1), gotOf channelAnswer (b3 .before .before .read-channel2 .ensures) (b3 .green .given .1), gotOf channelAnswer (b4 .before .before .read-channel3 .ensures) (b4 .blue .given .1), gotOf idAnswer (b5 .before .before .read-id2 .ensures) (b5 .last .given .1), sym (c .before .begins .ensures), c .if1 .left)
+unfolding rgb
+returns-2 c = c .read-channels .ensures ∙ sym (piece-there textOf 22 _ _ _ (gotOf textAnswer (c .before .before .before .read-bytes .ensures) (c .before .enum-told .given .1)))
 
 pub read-colour-spec : {M : Type 1} → statement M
 read-colour-spec =
@@ -73,26 +26,4 @@ read-colour-spec =
     (λ c κs. search needs)
     returns
     (λ c κs. search needs)
-    (λ c. search needs)
-    (λ c. search needs)
-    (λ c κs. search needs)
-    returns-2
-    (λ c κs. search needs)
-    (λ c. search needs)
-    (λ c. search needs)
-    (λ c κs. search needs)
-    returns-3
-    (λ c κs. search needs)
-    (λ c. search needs)
-    (λ c. search needs)
-    (λ c κs. search needs)
-    returns-4
-    (λ c κs. search needs)
-    (λ c. search needs)
-    (λ c. search needs)
-    (λ c κs. search needs)
-    returns-5
-    (λ c κs. search needs)
-    (λ c κs. search needs)
-    returns-6
-    returns-7)
+    returns-2)

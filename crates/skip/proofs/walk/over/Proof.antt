@@ -3,7 +3,7 @@ use native.Mathlib.Omega.{arith}
 use mathlib.Core.Path.{refl, sym, _∙_}
 use Rattle.form.proofs.SkipSteps.{passing-on}
 use Rattle.payload.specs.Answers.{textAnswer}
-use Rattle.payload.proofs.LetElse.{gotOf, elseOf}
+use Rattle.payload.proofs.LetElse.{gotOf, lackOf}
 use Rattle.skip.proofs.Passing.{got, got-not}
 use Rattle.skip.proofs.Turns.{cut-short, deeper, out, higher, onward, over-at}
 use borrow.Author.Needs.{needs}
@@ -15,7 +15,7 @@ returns c = record { answer = sym (out _ _ _ _ (c .before .match .keys2) (c .if1
 
 returns-2 : tie.Need-returns-2
 returns-2 c =
-    let f = got-not (c .before .before .before .skip-payload .ensures) (elseOf textAnswer refl (c .before .enum-told .given .1) (c .refusal .ensures) refl) in
+    let f = got-not (c .before .before .before .skip-payload .ensures) (lackOf textAnswer refl (c .before .enum-told .given .1) (c .missing .ensures) refl) in
     record { answer = sym (cut-short _ _ _ _ f); moves = tt }
 
 returns-3 : tie.Need-returns-3

@@ -5,7 +5,7 @@ use mathlib.Core.Path.{_≡_, refl, _∙_}
 use lib.ListN.{length}
 use borrow.Author.Needs.{needs}
 use Rattle.payload.specs.Answers.{idAnswer}
-use Rattle.payload.proofs.LetElse.{gotOf, elseOf}
+use Rattle.payload.proofs.LetElse.{gotOf, lackOf}
 use Rattle.skip.specs.Walks.{walkAfter}
 use Rattle.skip.proofs.Turns.{known, ends, goes-on}
 use Rattle.skip.proofs.walk.skip_from.Statement.{statement}
@@ -26,7 +26,7 @@ over-requires c κs = c .loop .inv .0
 returns : tie.Need-returns Inv-loop μ-loop
 returns c =
     let t = known _ _ _ _ (c .before .before .before .before .before .before .before .over .ensures) (c .before .before .before .before .before .turn .given .1) in
-    let e = elseOf idAnswer (c .before .before .before .read-id .ensures) (c .before .enum-told .given .1) (c .refusal .ensures) refl in
+    let e = lackOf idAnswer (c .before .before .before .read-id .ensures) (c .before .enum-told .given .1) (c .missing .ensures) refl in
     ends _ _ _ _ t e ∙ c .before .before .before .before .before .before .before .before .loop .inv .1
 
 loop-less : tie.Need-loop-less Inv-loop μ-loop

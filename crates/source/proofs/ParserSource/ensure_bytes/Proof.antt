@@ -13,8 +13,8 @@ returns c =
     let e = sym (c .before .before .before .check .ensures) ∙ c .before .c .given .1 in
     sym (ensured-bad (now (a .supply)) (now (a .schedule)) (a .self) (now (a .buffer)) e _)
 
-sub-if1 : tie.Need-sub-if1
-sub-if1 c =
+sub-unread : tie.Need-sub-unread
+sub-unread c =
     let a = c .before .before .before .before .before .before .before .before .args in
     let e = sym (c .before .before .before .check .ensures) ∙ c .before .enum-told .given .1 in
     ordered (now (a .supply)) (now (a .schedule)) (a .self) (now (a .buffer)) e
@@ -58,9 +58,10 @@ ensure-bytes-spec =
     (λ c. search needs)
     returns
     (λ c. search needs)
-    sub-if1
+    sub-unread
     (λ c. search needs)
     returns-2
+    (λ c. search needs)
     (λ c. search needs)
     returns-3
     (λ c. search needs)

@@ -26,21 +26,21 @@ returns c =
 
 returns-2 : tie.Need-returns-2
 returns-2 c =
-    let s = c .before .before .before .before .before .before .before .before .before .before .before .before .before .before .before .before in
+    let s = c .before .before .before .before .before .before .before .before .before .before .before .before .before .before .before in
     let a = s .args in
-    let d = c .before .before .before .before .before .before .before .before .before .before .slide in
-    let f = c .before .before .before .before .before .before .fill-up in
-    let l = c .before .before .before .filled in
-    topped-short (now (a .supply)) (now (a .schedule)) (a .self) (now (a .buffer)) (s .pre) (d .last .0) (f .last .0) (f .result) (l .result) (d .ensures) (f .ensures .1) (l .ensures) _ (f .ensures .0) (c .before .before .if1 .left) (c .if2 .taken)
+    let d = c .before .before .before .before .before .before .before .before .before .slide in
+    let f = c .before .before .before .before .before .fill-up in
+    let l = c .before .before .filled in
+    topped-short (now (a .supply)) (now (a .schedule)) (a .self) (now (a .buffer)) (s .pre) (d .last .0) (f .last .0) (f .result) (l .result) (d .ensures) (f .ensures .1) (l .ensures) _ (f .ensures .0) (c .before .if1 .left) (c .if2 .taken)
 
 returns-3 : tie.Need-returns-3
 returns-3 c =
-    let s = c .before .before .before .before .before .before .before .before .before .before .before .before .before .before .before .before in
+    let s = c .before .before .before .before .before .before .before .before .before .before .before .before .before .before .before in
     let a = s .args in
-    let d = c .before .before .before .before .before .before .before .before .before .before .slide in
-    let f = c .before .before .before .before .before .before .fill-up in
-    let l = c .before .before .before .filled in
-    topped-ready (now (a .supply)) (now (a .schedule)) (a .self) (now (a .buffer)) (s .pre) (d .last .0) (f .last .0) (f .result) (l .result) (d .ensures) (f .ensures .1) (l .ensures) _ (f .ensures .0) (c .before .before .if1 .left) (c .if2 .left)
+    let d = c .before .before .before .before .before .before .before .before .before .slide in
+    let f = c .before .before .before .before .before .fill-up in
+    let l = c .before .before .filled in
+    topped-ready (now (a .supply)) (now (a .schedule)) (a .self) (now (a .buffer)) (s .pre) (d .last .0) (f .last .0) (f .result) (l .result) (d .ensures) (f .ensures .1) (l .ensures) _ (f .ensures .0) (c .before .if1 .left) (c .if2 .left)
 
 pub refill-slow-spec : {M : Type 1} → statement M
 refill-slow-spec =
@@ -52,6 +52,7 @@ refill-slow-spec =
     filled-requires
     (λ c. search needs)
     returns
+    (λ c. search needs)
     (λ c. search needs)
     returns-2
     (λ c. search needs)

@@ -81,7 +81,7 @@ impl Case for Sequence {
         let Some(position) = self.source.bad_place() else {
             return self.by_original();
         };
-        let refused = Got::Refused { code: code::BAD_PLACE, position };
+        let refused = Got::Refused { code: code::BAD_PLACE, position, missing: 0 };
         let seen = SeenCall::expected(&self.source, refused, self.source.numbers(), &self.source.buffer);
         vec![seen; 2 * self.ops.len()]
     }
