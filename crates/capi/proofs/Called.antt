@@ -10,7 +10,7 @@ use lib.Seq.{sets, sets-eq}
 use borrow.Author.Tests.{leb-true, le-leb}
 use Rattle.form.specs.Numbers.{pick}
 use Rattle.form.specs.Calls as F
-use Rattle.form.proofs.Never.{never}
+use Rattle.laws.proofs.Never.{never}
 use Rattle.source.specs.declared.ParserSource.{ParserSource}
 use Rattle.source.specs.Window.{Drawn, drawn, Draw, drawnThen, ifGiven, unread, heldIn, window, takenPart, windowLen, windowOf}
 use Rattle.source.proofs.Cases.{by-check, held}

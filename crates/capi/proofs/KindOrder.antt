@@ -12,7 +12,7 @@ use mir.Syntax.{w64}
 use mir.Val.{toZ}
 use Rattle.form.specs.Numbers.{pick}
 use Rattle.form.specs.Values.{kind}
-use Rattle.form.proofs.Sound.{_&_}
+use Rattle.laws.proofs.Sound.{_&_}
 use Rattle.token.specs.declared.Token.{Token}
 use Rattle.token.specs.Tokens.{valueOf}
 use Rattle.capi.specs.Offered.{kindTokens, kindToken, offeredToken}

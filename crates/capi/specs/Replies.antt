@@ -6,7 +6,7 @@ use lib.ListN.{length, drop}
 use lib.Dec.{leb}
 use Rattle.form.specs.Numbers.{pick}
 use Rattle.form.specs.Refusals.{Refusal, refusalNumber, refusalValues}
-use Rattle.form.specs.Calls.{Cursor, Call, gives, refuses}
+use Rattle.form.specs.Calls.{Call, gives, refuses}
 
 -- ---- the numbers, beside those of the refusals
 
@@ -50,10 +50,6 @@ abbrev pub absent : ℕ → Reply
 absent p = reply NONE p []
 
 -- ---- the reply to a call, by the words of its value
-
--- the cursor of a call at a place
-abbrev pub cursor : ℕ → Cursor
-cursor p = record { at = p }
 
 abbrev pub replyOf : {A : Type 0} → (A → List ℕ) → Call A → Reply
 replyOf words (gives a c) = answered (c .at) (words a)

@@ -9,7 +9,7 @@ use Rattle.form.specs.Calls as F
 use Rattle.payload.specs.declared.answers.Text.{Text}
 use Rattle.source.specs.declared.ParserSource.{ParserSource}
 use Rattle.source.specs.Window.{Drawn, drawn, halted, Draw, drawnThen, textAt, windowLen}
-use Rattle.capi.specs.Replies.{ANSWERED, SHORT_ANSWER, BAD_ARGUMENT, Reply, cursor, Returned, returned, into}
+use Rattle.capi.specs.Replies.{ANSWERED, SHORT_ANSWER, BAD_ARGUMENT, Reply, Returned, returned, into}
 use Rattle.capi.specs.Code.{asReply}
 use Rattle.capi.specs.declared.states.Asked.{Asked}
 use Rattle.capi.specs.declared.states.Asked.the-variants.{State, Bad}
@@ -67,8 +67,8 @@ sourceReplyOf x buffer = sourceReply (asReply (x .reply)) (x .next) buffer
 
 -- by the reply to what is answered, with the position for a cursor
 abbrev pub sourceReplyAt : {A : Type 0} → (F.Call A → Reply) → Drawn A → SourceReply
-sourceReplyAt reply (drawn a s buffer) = sourceReply (reply (F.gives a (cursor (s .position)))) s buffer
-sourceReplyAt reply (halted r s buffer) = sourceReply (reply (F.refuses r (cursor (s .position)))) s buffer
+sourceReplyAt reply (drawn a s buffer) = sourceReply (reply (F.gives a (F.cursorAt (s .position)))) s buffer
+sourceReplyAt reply (halted r s buffer) = sourceReply (reply (F.refuses r (F.cursorAt (s .position)))) s buffer
 
 -- from a buffer
 abbrev pub sourceReplyTo : {A : Type 0} → (F.Call A → Reply) → (List ℕ → Drawn A) → List ℕ → SourceReply

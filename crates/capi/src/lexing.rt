@@ -3,11 +3,11 @@ ghost use mathlib.Core.Path.{_≡_};
 ghost use Rattle.form.specs.Readers.{at as readAt};
 ghost use Rattle.form.specs.Reading.{num, rgb};
 ghost use Rattle.form.specs.Skipping.{skipContainer, skipValue};
-ghost use Rattle.form.specs.Calls.{reads, nexts, peeks, skips};
+ghost use Rattle.form.specs.Calls.{cursorAt, reads, nexts, peeks, skips};
 ghost use Rattle.form.specs.Finding.{finds};
 ghost use Rattle.token.specs.Tokens.{tokenAt};
 ghost use Rattle.lexer.specs.Calls.{boolAt, i32At, i64At, stringAt, bytesAt, remainderOf};
-ghost use Rattle.capi.specs.Replies.{cursor, replyOf, replyOrNone, returned, into};
+ghost use Rattle.capi.specs.Replies.{replyOf, replyOrNone, returned, into};
 ghost use Rattle.capi.specs.Words.{noWords, numberWords, boolWords, signedWords, textWords, colourWords, tokenWords};
 use crate::lexer_replies;
 use crate::replies;
@@ -17,7 +17,7 @@ use lexer::Lexer;
 // An id: two bytes.
 #[no_mangle]
 pub extern "C" fn stivlaheim_read_id(bytes: &[u8], at: usize, answer: &mut [u64]) -> u32
-    ensures { λ r. ⌜ returned r (now (answer .exit)) ≡ into (now (answer .entry)) (replyOf numberWords (reads (readAt (num 2)) (now (bytes .entry)) (cursor at))) ⌝ }
+    ensures { λ r. ⌜ returned r (now (answer .exit)) ≡ into (now (answer .entry)) (replyOf numberWords (reads (readAt (num 2)) (now (bytes .entry)) (cursorAt at))) ⌝ }
 {
     let c = Lexer { at };
     replies::store(answer, lexer_replies::of_id(c, c.read_id(bytes)))
@@ -26,7 +26,7 @@ pub extern "C" fn stivlaheim_read_id(bytes: &[u8], at: usize, answer: &mut [u64]
 // The next id; none at the end.
 #[no_mangle]
 pub extern "C" fn stivlaheim_next_id(bytes: &[u8], at: usize, answer: &mut [u64]) -> u32
-    ensures { λ r. ⌜ returned r (now (answer .exit)) ≡ into (now (answer .entry)) (replyOrNone numberWords (nexts (readAt (num 2)) (now (bytes .entry)) (cursor at))) ⌝ }
+    ensures { λ r. ⌜ returned r (now (answer .exit)) ≡ into (now (answer .entry)) (replyOrNone numberWords (nexts (readAt (num 2)) (now (bytes .entry)) (cursorAt at))) ⌝ }
 {
     let c = Lexer { at };
     replies::store(answer, lexer_replies::of_next_id(c, c.next_id(bytes)))
@@ -35,7 +35,7 @@ pub extern "C" fn stivlaheim_next_id(bytes: &[u8], at: usize, answer: &mut [u64]
 // The next id, with the cursor left where it is; none where it is refused.
 #[no_mangle]
 pub extern "C" fn stivlaheim_peek_id(bytes: &[u8], at: usize, answer: &mut [u64]) -> u32
-    ensures { λ r. ⌜ returned r (now (answer .exit)) ≡ into (now (answer .entry)) (replyOrNone numberWords (peeks (readAt (num 2)) (now (bytes .entry)) (cursor at))) ⌝ }
+    ensures { λ r. ⌜ returned r (now (answer .exit)) ≡ into (now (answer .entry)) (replyOrNone numberWords (peeks (readAt (num 2)) (now (bytes .entry)) (cursorAt at))) ⌝ }
 {
     let c = Lexer { at };
     replies::store(answer, lexer_replies::of_peek_id(c, c.peek_id(bytes)))
@@ -44,7 +44,7 @@ pub extern "C" fn stivlaheim_peek_id(bytes: &[u8], at: usize, answer: &mut [u64]
 // A token: an id and its payload.
 #[no_mangle]
 pub extern "C" fn stivlaheim_read_token(bytes: &[u8], at: usize, answer: &mut [u64]) -> u32
-    ensures { λ r. ⌜ returned r (now (answer .exit)) ≡ into (now (answer .entry)) (replyOf tokenWords (reads tokenAt (now (bytes .entry)) (cursor at))) ⌝ }
+    ensures { λ r. ⌜ returned r (now (answer .exit)) ≡ into (now (answer .entry)) (replyOf tokenWords (reads tokenAt (now (bytes .entry)) (cursorAt at))) ⌝ }
 {
     let c = Lexer { at };
     replies::store(answer, lexer_replies::of_token(c, c.read_token(bytes)))
@@ -53,7 +53,7 @@ pub extern "C" fn stivlaheim_read_token(bytes: &[u8], at: usize, answer: &mut [u
 // The next token; none at the end.
 #[no_mangle]
 pub extern "C" fn stivlaheim_next_token(bytes: &[u8], at: usize, answer: &mut [u64]) -> u32
-    ensures { λ r. ⌜ returned r (now (answer .exit)) ≡ into (now (answer .entry)) (replyOrNone tokenWords (nexts tokenAt (now (bytes .entry)) (cursor at))) ⌝ }
+    ensures { λ r. ⌜ returned r (now (answer .exit)) ≡ into (now (answer .entry)) (replyOrNone tokenWords (nexts tokenAt (now (bytes .entry)) (cursorAt at))) ⌝ }
 {
     let c = Lexer { at };
     replies::store(answer, lexer_replies::of_next_token(c, c.next_token(bytes)))
@@ -62,7 +62,7 @@ pub extern "C" fn stivlaheim_next_token(bytes: &[u8], at: usize, answer: &mut [u
 // The next token, with the cursor left where it is; none where it is refused.
 #[no_mangle]
 pub extern "C" fn stivlaheim_peek_token(bytes: &[u8], at: usize, answer: &mut [u64]) -> u32
-    ensures { λ r. ⌜ returned r (now (answer .exit)) ≡ into (now (answer .entry)) (replyOrNone tokenWords (peeks tokenAt (now (bytes .entry)) (cursor at))) ⌝ }
+    ensures { λ r. ⌜ returned r (now (answer .exit)) ≡ into (now (answer .entry)) (replyOrNone tokenWords (peeks tokenAt (now (bytes .entry)) (cursorAt at))) ⌝ }
 {
     let c = Lexer { at };
     replies::store(answer, lexer_replies::of_peek_token(c, c.peek_token(bytes)))
@@ -71,7 +71,7 @@ pub extern "C" fn stivlaheim_peek_token(bytes: &[u8], at: usize, answer: &mut [u
 // A string, after its id: the part that holds its text.
 #[no_mangle]
 pub extern "C" fn stivlaheim_read_string(bytes: &[u8], at: usize, answer: &mut [u64]) -> u32
-    ensures { λ r. ⌜ returned r (now (answer .exit)) ≡ into (now (answer .entry)) (replyOf textWords (reads stringAt (now (bytes .entry)) (cursor at))) ⌝ }
+    ensures { λ r. ⌜ returned r (now (answer .exit)) ≡ into (now (answer .entry)) (replyOf textWords (reads stringAt (now (bytes .entry)) (cursorAt at))) ⌝ }
 {
     let c = Lexer { at };
     replies::store(answer, lexer_replies::of_string(c, c.read_string(bytes)))
@@ -80,7 +80,7 @@ pub extern "C" fn stivlaheim_read_string(bytes: &[u8], at: usize, answer: &mut [
 // A bool: one byte, true where it is not zero.
 #[no_mangle]
 pub extern "C" fn stivlaheim_read_bool(bytes: &[u8], at: usize, answer: &mut [u64]) -> u32
-    ensures { λ r. ⌜ returned r (now (answer .exit)) ≡ into (now (answer .entry)) (replyOf boolWords (reads boolAt (now (bytes .entry)) (cursor at))) ⌝ }
+    ensures { λ r. ⌜ returned r (now (answer .exit)) ≡ into (now (answer .entry)) (replyOf boolWords (reads boolAt (now (bytes .entry)) (cursorAt at))) ⌝ }
 {
     let c = Lexer { at };
     replies::store(answer, lexer_replies::of_bool(c, c.read_bool(bytes)))
@@ -89,7 +89,7 @@ pub extern "C" fn stivlaheim_read_bool(bytes: &[u8], at: usize, answer: &mut [u6
 // A lookup of one byte.
 #[no_mangle]
 pub extern "C" fn stivlaheim_read_lookup_u8(bytes: &[u8], at: usize, answer: &mut [u64]) -> u32
-    ensures { λ r. ⌜ returned r (now (answer .exit)) ≡ into (now (answer .entry)) (replyOf numberWords (reads (readAt (num 1)) (now (bytes .entry)) (cursor at))) ⌝ }
+    ensures { λ r. ⌜ returned r (now (answer .exit)) ≡ into (now (answer .entry)) (replyOf numberWords (reads (readAt (num 1)) (now (bytes .entry)) (cursorAt at))) ⌝ }
 {
     let c = Lexer { at };
     replies::store(answer, lexer_replies::of_u8(c, c.read_lookup_u8(bytes)))
@@ -98,7 +98,7 @@ pub extern "C" fn stivlaheim_read_lookup_u8(bytes: &[u8], at: usize, answer: &mu
 // A lookup of two bytes.
 #[no_mangle]
 pub extern "C" fn stivlaheim_read_lookup_u16(bytes: &[u8], at: usize, answer: &mut [u64]) -> u32
-    ensures { λ r. ⌜ returned r (now (answer .exit)) ≡ into (now (answer .entry)) (replyOf numberWords (reads (readAt (num 2)) (now (bytes .entry)) (cursor at))) ⌝ }
+    ensures { λ r. ⌜ returned r (now (answer .exit)) ≡ into (now (answer .entry)) (replyOf numberWords (reads (readAt (num 2)) (now (bytes .entry)) (cursorAt at))) ⌝ }
 {
     let c = Lexer { at };
     replies::store(answer, lexer_replies::of_u16(c, c.read_lookup_u16(bytes)))
@@ -107,7 +107,7 @@ pub extern "C" fn stivlaheim_read_lookup_u16(bytes: &[u8], at: usize, answer: &m
 // A lookup of three bytes.
 #[no_mangle]
 pub extern "C" fn stivlaheim_read_lookup_u24(bytes: &[u8], at: usize, answer: &mut [u64]) -> u32
-    ensures { λ r. ⌜ returned r (now (answer .exit)) ≡ into (now (answer .entry)) (replyOf numberWords (reads (readAt (num 3)) (now (bytes .entry)) (cursor at))) ⌝ }
+    ensures { λ r. ⌜ returned r (now (answer .exit)) ≡ into (now (answer .entry)) (replyOf numberWords (reads (readAt (num 3)) (now (bytes .entry)) (cursorAt at))) ⌝ }
 {
     let c = Lexer { at };
     replies::store(answer, lexer_replies::of_u32(c, c.read_lookup_u24(bytes)))
@@ -116,7 +116,7 @@ pub extern "C" fn stivlaheim_read_lookup_u24(bytes: &[u8], at: usize, answer: &m
 // A lookup of four bytes.
 #[no_mangle]
 pub extern "C" fn stivlaheim_read_lookup_u32(bytes: &[u8], at: usize, answer: &mut [u64]) -> u32
-    ensures { λ r. ⌜ returned r (now (answer .exit)) ≡ into (now (answer .entry)) (replyOf numberWords (reads (readAt (num 4)) (now (bytes .entry)) (cursor at))) ⌝ }
+    ensures { λ r. ⌜ returned r (now (answer .exit)) ≡ into (now (answer .entry)) (replyOf numberWords (reads (readAt (num 4)) (now (bytes .entry)) (cursorAt at))) ⌝ }
 {
     let c = Lexer { at };
     replies::store(answer, lexer_replies::of_u32(c, c.read_lookup_u32(bytes)))
@@ -125,7 +125,7 @@ pub extern "C" fn stivlaheim_read_lookup_u32(bytes: &[u8], at: usize, answer: &m
 // An unsigned number of four bytes.
 #[no_mangle]
 pub extern "C" fn stivlaheim_read_u32(bytes: &[u8], at: usize, answer: &mut [u64]) -> u32
-    ensures { λ r. ⌜ returned r (now (answer .exit)) ≡ into (now (answer .entry)) (replyOf numberWords (reads (readAt (num 4)) (now (bytes .entry)) (cursor at))) ⌝ }
+    ensures { λ r. ⌜ returned r (now (answer .exit)) ≡ into (now (answer .entry)) (replyOf numberWords (reads (readAt (num 4)) (now (bytes .entry)) (cursorAt at))) ⌝ }
 {
     let c = Lexer { at };
     replies::store(answer, lexer_replies::of_u32(c, c.read_u32(bytes)))
@@ -134,7 +134,7 @@ pub extern "C" fn stivlaheim_read_u32(bytes: &[u8], at: usize, answer: &mut [u64
 // An unsigned number of eight bytes.
 #[no_mangle]
 pub extern "C" fn stivlaheim_read_u64(bytes: &[u8], at: usize, answer: &mut [u64]) -> u32
-    ensures { λ r. ⌜ returned r (now (answer .exit)) ≡ into (now (answer .entry)) (replyOf numberWords (reads (readAt (num 8)) (now (bytes .entry)) (cursor at))) ⌝ }
+    ensures { λ r. ⌜ returned r (now (answer .exit)) ≡ into (now (answer .entry)) (replyOf numberWords (reads (readAt (num 8)) (now (bytes .entry)) (cursorAt at))) ⌝ }
 {
     let c = Lexer { at };
     replies::store(answer, lexer_replies::of_u64(c, c.read_u64(bytes)))
@@ -143,7 +143,7 @@ pub extern "C" fn stivlaheim_read_u64(bytes: &[u8], at: usize, answer: &mut [u64
 // A signed number of four bytes, as the bits of one of eight.
 #[no_mangle]
 pub extern "C" fn stivlaheim_read_i32(bytes: &[u8], at: usize, answer: &mut [u64]) -> u32
-    ensures { λ r. ⌜ returned r (now (answer .exit)) ≡ into (now (answer .entry)) (replyOf signedWords (reads i32At (now (bytes .entry)) (cursor at))) ⌝ }
+    ensures { λ r. ⌜ returned r (now (answer .exit)) ≡ into (now (answer .entry)) (replyOf signedWords (reads i32At (now (bytes .entry)) (cursorAt at))) ⌝ }
 {
     let c = Lexer { at };
     replies::store(answer, lexer_replies::of_i32(c, c.read_i32(bytes)))
@@ -152,7 +152,7 @@ pub extern "C" fn stivlaheim_read_i32(bytes: &[u8], at: usize, answer: &mut [u64
 // A signed number of eight bytes, as its bits.
 #[no_mangle]
 pub extern "C" fn stivlaheim_read_i64(bytes: &[u8], at: usize, answer: &mut [u64]) -> u32
-    ensures { λ r. ⌜ returned r (now (answer .exit)) ≡ into (now (answer .entry)) (replyOf signedWords (reads i64At (now (bytes .entry)) (cursor at))) ⌝ }
+    ensures { λ r. ⌜ returned r (now (answer .exit)) ≡ into (now (answer .entry)) (replyOf signedWords (reads i64At (now (bytes .entry)) (cursorAt at))) ⌝ }
 {
     let c = Lexer { at };
     replies::store(answer, lexer_replies::of_i64(c, c.read_i64(bytes)))
@@ -161,7 +161,7 @@ pub extern "C" fn stivlaheim_read_i64(bytes: &[u8], at: usize, answer: &mut [u64
 // The number that the four bytes of a float spell.
 #[no_mangle]
 pub extern "C" fn stivlaheim_read_f32(bytes: &[u8], at: usize, answer: &mut [u64]) -> u32
-    ensures { λ r. ⌜ returned r (now (answer .exit)) ≡ into (now (answer .entry)) (replyOf numberWords (reads (readAt (num 4)) (now (bytes .entry)) (cursor at))) ⌝ }
+    ensures { λ r. ⌜ returned r (now (answer .exit)) ≡ into (now (answer .entry)) (replyOf numberWords (reads (readAt (num 4)) (now (bytes .entry)) (cursorAt at))) ⌝ }
 {
     let c = Lexer { at };
     replies::store(answer, lexer_replies::of_u32(c, c.read_f32(bytes)))
@@ -170,7 +170,7 @@ pub extern "C" fn stivlaheim_read_f32(bytes: &[u8], at: usize, answer: &mut [u64
 // The number that the eight bytes of a float spell.
 #[no_mangle]
 pub extern "C" fn stivlaheim_read_f64(bytes: &[u8], at: usize, answer: &mut [u64]) -> u32
-    ensures { λ r. ⌜ returned r (now (answer .exit)) ≡ into (now (answer .entry)) (replyOf numberWords (reads (readAt (num 8)) (now (bytes .entry)) (cursor at))) ⌝ }
+    ensures { λ r. ⌜ returned r (now (answer .exit)) ≡ into (now (answer .entry)) (replyOf numberWords (reads (readAt (num 8)) (now (bytes .entry)) (cursorAt at))) ⌝ }
 {
     let c = Lexer { at };
     replies::store(answer, lexer_replies::of_u64(c, c.read_f64(bytes)))
@@ -179,7 +179,7 @@ pub extern "C" fn stivlaheim_read_f64(bytes: &[u8], at: usize, answer: &mut [u64
 // A colour, after its id.
 #[no_mangle]
 pub extern "C" fn stivlaheim_read_rgb(bytes: &[u8], at: usize, answer: &mut [u64]) -> u32
-    ensures { λ r. ⌜ returned r (now (answer .exit)) ≡ into (now (answer .entry)) (replyOf colourWords (reads (readAt rgb) (now (bytes .entry)) (cursor at))) ⌝ }
+    ensures { λ r. ⌜ returned r (now (answer .exit)) ≡ into (now (answer .entry)) (replyOf colourWords (reads (readAt rgb) (now (bytes .entry)) (cursorAt at))) ⌝ }
 {
     let c = Lexer { at };
     replies::store(answer, lexer_replies::of_rgb(c, c.read_rgb(bytes)))
@@ -188,7 +188,7 @@ pub extern "C" fn stivlaheim_read_rgb(bytes: &[u8], at: usize, answer: &mut [u64
 // The part that is left.
 #[no_mangle]
 pub extern "C" fn stivlaheim_remainder(bytes: &[u8], at: usize, answer: &mut [u64]) -> u32
-    ensures { λ r. ⌜ returned r (now (answer .exit)) ≡ into (now (answer .entry)) (replyOf textWords (remainderOf (now (bytes .entry)) (cursor at))) ⌝ }
+    ensures { λ r. ⌜ returned r (now (answer .exit)) ≡ into (now (answer .entry)) (replyOf textWords (remainderOf (now (bytes .entry)) (cursorAt at))) ⌝ }
 {
     let c = Lexer { at };
     replies::store(answer, lexer_replies::of_string(c, c.remainder(bytes)))
@@ -202,7 +202,7 @@ pub extern "C" fn stivlaheim_read_bytes(
     count: usize,
     answer: &mut [u64],
 ) -> u32
-    ensures { λ r. ⌜ returned r (now (answer .exit)) ≡ into (now (answer .entry)) (replyOf textWords (reads (bytesAt count) (now (bytes .entry)) (cursor at))) ⌝ }
+    ensures { λ r. ⌜ returned r (now (answer .exit)) ≡ into (now (answer .entry)) (replyOf textWords (reads (bytesAt count) (now (bytes .entry)) (cursorAt at))) ⌝ }
 {
     let c = Lexer { at };
     replies::store(
@@ -214,7 +214,7 @@ pub extern "C" fn stivlaheim_read_bytes(
 // From inside a container to the place after its end.
 #[no_mangle]
 pub extern "C" fn stivlaheim_skip_container(bytes: &[u8], at: usize, answer: &mut [u64]) -> u32
-    ensures { λ r. ⌜ returned r (now (answer .exit)) ≡ into (now (answer .entry)) (replyOf noWords (skips skipContainer (now (bytes .entry)) (cursor at))) ⌝ }
+    ensures { λ r. ⌜ returned r (now (answer .exit)) ≡ into (now (answer .entry)) (replyOf noWords (skips skipContainer (now (bytes .entry)) (cursorAt at))) ⌝ }
 {
     let c = Lexer { at };
     replies::store(answer, lexer_replies::of_skip(c.skip_container(bytes)))
@@ -223,7 +223,7 @@ pub extern "C" fn stivlaheim_skip_container(bytes: &[u8], at: usize, answer: &mu
 // Past the value whose id was read just before the cursor.
 #[no_mangle]
 pub extern "C" fn stivlaheim_skip_value(bytes: &[u8], at: usize, id: u16, answer: &mut [u64]) -> u32
-    ensures { λ r. ⌜ returned r (now (answer .exit)) ≡ into (now (answer .entry)) (replyOf noWords (skips (skipValue id) (now (bytes .entry)) (cursor at))) ⌝ }
+    ensures { λ r. ⌜ returned r (now (answer .exit)) ≡ into (now (answer .entry)) (replyOf noWords (skips (skipValue id) (now (bytes .entry)) (cursorAt at))) ⌝ }
 {
     let c = Lexer { at };
     replies::store(
@@ -235,7 +235,7 @@ pub extern "C" fn stivlaheim_skip_value(bytes: &[u8], at: usize, id: u16, answer
 // The position of the first key that is a plain id, from the cursor on; none if it is no key.
 #[no_mangle]
 pub extern "C" fn stivlaheim_find_key(bytes: &[u8], at: usize, id: u16, answer: &mut [u64]) -> u32
-    ensures { λ r. ⌜ returned r (now (answer .exit)) ≡ into (now (answer .entry)) (replyOrNone numberWords (finds id (now (bytes .entry)) (cursor at))) ⌝ }
+    ensures { λ r. ⌜ returned r (now (answer .exit)) ≡ into (now (answer .entry)) (replyOrNone numberWords (finds id (now (bytes .entry)) (cursorAt at))) ⌝ }
 {
     let c = Lexer { at };
     replies::store(

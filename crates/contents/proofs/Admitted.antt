@@ -17,9 +17,9 @@ use Rattle.form.specs.Numbers.{pick}
 use Rattle.form.specs.Refusals as R
 use Rattle.form.specs.Writing.{over, wrote, declined}
 use Rattle.form.specs.Contents.{inOrder, Filling, filled, unfilled, fillingOutcome, numbersLeft, roomFor, bigNumber, VERSION, entriesIn, entriesOf, isFile, readFile}
-use Rattle.form.proofs.Never.{never}
-use Rattle.form.proofs.Elsewhere.{both}
-use Rattle.form.proofs.FileBack.{file-is, length-entries-in}
+use Rattle.laws.proofs.Never.{never}
+use Rattle.laws.proofs.Elsewhere.{both}
+use Rattle.laws.proofs.FileBack.{file-is, length-entries-in}
 use Rattle.contents.specs.declared.searching.Seen.{Seen}
 use Rattle.contents.specs.declared.file.Opened.{Opened}
 use Rattle.contents.specs.declared.file.Opened.the-variants as O

@@ -10,8 +10,8 @@ use lib.Seq.{sets, drop-cons, drop-drop}
 use Rattle.form.specs.Numbers.{le, leBytes}
 use Rattle.form.specs.Writing.{over}
 use Rattle.form.specs.Contents.{flat, big, bigNumber, bigAll, entriesIn}
-use Rattle.form.proofs.Runs.{sets-append, sets-front}
-use Rattle.form.proofs.BigEndian.{length-big}
+use Rattle.laws.proofs.Runs.{sets-append, sets-front}
+use Rattle.laws.proofs.BigEndian.{length-big}
 use Rattle.contents.specs.Files.{numbersIn}
 
 -- ---- one number

@@ -17,11 +17,11 @@ use Rattle.form.specs.Refusals as R
 use Rattle.form.specs.Writing.{over, Output, written, unwritten, wrote, outcome, leaves, Follows, fitted}
 use Rattle.form.specs.Contents as F
 use Rattle.form.specs.Contents.{inOrder, flat, paired, orNowhere, unsearched, holder, byPairs, search, searchNumbers, big, VERSION, bigAll, file, MANY, writeFile, writeNumbers}
-use Rattle.form.proofs.Never.{never}
-use Rattle.form.proofs.Runs.{sets-append, sets-front}
-use Rattle.form.proofs.Pairs.{length-flat, flat-paired}
-use Rattle.form.proofs.BigEndian.{length-big}
-use Rattle.form.proofs.FileBack.{length-file}
+use Rattle.laws.proofs.Never.{never}
+use Rattle.laws.proofs.Runs.{sets-append, sets-front}
+use Rattle.laws.proofs.Pairs.{length-flat, flat-paired}
+use Rattle.laws.proofs.BigEndian.{length-big}
+use Rattle.laws.proofs.FileBack.{length-file}
 use Rattle.contents.specs.declared.searching.Searched.{Searched}
 use Rattle.contents.specs.declared.searching.Searched.the-variants.{Held, Nowhere, BadIndex}
 use Rattle.contents.specs.declared.file.Written.{Written}

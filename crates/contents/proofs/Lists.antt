@@ -19,10 +19,10 @@ use Rattle.form.specs.Numbers.{pick}
 use Rattle.form.specs.Writing.{outcome, leaves, Follows, fitted}
 use Rattle.form.specs.Contents as F
 use Rattle.form.specs.Contents.{inOrder, holder, search, flat, big, bigAll, file, MANY, writeFile}
-use Rattle.form.proofs.Never.{never}
-use Rattle.form.proofs.Runs.{sets-append}
-use Rattle.form.proofs.BigEndian.{length-big}
-use Rattle.form.proofs.FileBack.{length-file}
+use Rattle.laws.proofs.Never.{never}
+use Rattle.laws.proofs.Runs.{sets-append}
+use Rattle.laws.proofs.BigEndian.{length-big}
+use Rattle.laws.proofs.FileBack.{length-file}
 use Rattle.contents.specs.declared.Entry.{Entry}
 use Rattle.contents.specs.declared.searching.Seen.{Seen}
 use Rattle.contents.specs.declared.searching.Searched.{Searched}

@@ -1,9 +1,9 @@
 -- The numbers of a list of entries, as they come from the keys. Assumes nothing.
-use Prim.Native.Nat.{ℕ, zero, suc, _+_, _-_, _*_, _/_, _≤_, _<_, _^_}
+use Prim.Native.Nat.{ℕ, zero, suc, _+_, _-_, _*_, _/_, _≤_, _<_}
 use native.Mathlib.Omega.{arith}
 use native.Mathlib.Numerals.{add-one}
-use mathlib.Core.Path.{_≡_, refl, sym, ap, subst, _∙_}
-use mathlib.Core.Bool.{Bool, true, false}
+use mathlib.Core.Path.{_≡_, refl, sym, ap, _∙_}
+use mathlib.Core.Bool.{true, false}
 use mathlib.Core.Option.{Option, none, some}
 use mathlib.Core.List.{List, [], _∷_, _++_}
 use lib.ListN.{length, take, drop, set, getD, length-set}
@@ -13,7 +13,6 @@ use types.Run.{OneOf}
 use denote.Enum.Declared.{tagOf}
 use lib.Seq.{sets, sets-eq, take-at, drop-cons}
 use borrow.Author.Tests.{le-leb, lt-leb}
-use Rattle.form.specs.Numbers.{pick}
 use Rattle.form.specs.Values.{Value}
 use Rattle.form.specs.Refusals as R
 use Rattle.form.specs.Refusals.{Refusal, refusalAt}
@@ -24,18 +23,18 @@ use Rattle.form.specs.Writing.{Outcome, wrote, declined, over}
 use Rattle.form.specs.Keys.{atTop, keysOf}
 use Rattle.form.specs.Finding.{cutBy, walkAt}
 use Rattle.form.specs.Contents as F
-use Rattle.form.specs.Contents.{firstOr, entriesTo, contents, flat, Filling, filled, unfilled, fillingOutcome, numbersLeft, roomFor, unlessCut}
-use Rattle.form.proofs.Never.{never}
-use Rattle.form.proofs.Seeking.{every-key}
-use Rattle.form.proofs.Pairs.{length-flat}
-use Rattle.form.proofs.InOrder.{length-entries}
+use Rattle.form.specs.Contents.{entriesTo, contents, flat, fillingOutcome, numbersLeft, roomFor, unlessCut}
+use Rattle.laws.proofs.Never.{never}
+use Rattle.laws.proofs.Seeking.{every-key}
+use Rattle.laws.proofs.Pairs.{length-flat}
+use Rattle.laws.proofs.InOrder.{length-entries}
 use Rattle.payload.specs.Answers.{faultOf}
 use Rattle.payload.specs.declared.answers.LexError.{LexError}
 use Rattle.token.proofs.Walks.{Read, read}
 use Rattle.keys.specs.declared.Wanted.the-variants.{Any}
 use Rattle.keys.specs.declared.Next.{Next}
 use Rattle.keys.specs.declared.Next.the-variants.{Key, End, Refused}
-use Rattle.keys.specs.Seeking.{wants, walkFrom, wantedFrom, FirstAt, NextKey}
+use Rattle.keys.specs.Seeking.{wants, walkFrom, wantedFrom, NextKey}
 use Rattle.contents.proofs.filling.Filled.{the-type}
 use Rattle.contents.specs.declared.filling.Filled.{Filled}
 use Rattle.contents.specs.declared.filling.Filled.the-variants.{Listed, Eof, InvalidRgb, ListFull, TooLong}

@@ -14,8 +14,8 @@ use Rattle.form.specs.Numbers.{pick}
 use Rattle.form.specs.Refusals as R
 use Rattle.form.specs.Contents as F
 use Rattle.form.specs.Contents.{span, goesOnAt, inOrder, holdsAt, oneOn, holder, flat, paired, search, orNowhere, unsearched, searchNumbers}
-use Rattle.form.proofs.Never.{never}
-use Rattle.form.proofs.Pairs.{length-flat, flat-at, flat-paired}
+use Rattle.laws.proofs.Never.{never}
+use Rattle.laws.proofs.Pairs.{length-flat, flat-at, flat-paired}
 use Rattle.contents.specs.declared.Entry.{Entry}
 use Rattle.contents.specs.declared.searching.Seen.{Seen}
 use Rattle.contents.specs.declared.searching.Searched.{Searched}

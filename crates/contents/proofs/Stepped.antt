@@ -19,8 +19,8 @@ use Rattle.form.specs.Keys.{those, keysOf}
 use Rattle.form.specs.Finding.{cutBy, walkAt}
 use Rattle.form.specs.Contents as F
 use Rattle.form.specs.Contents.{contents, fillingOutcome, roomFor, unlessCut}
-use Rattle.form.proofs.Never.{never}
-use Rattle.form.proofs.Walking.{from, from-end}
+use Rattle.laws.proofs.Never.{never}
+use Rattle.laws.proofs.Walking.{from, from-end}
 use Rattle.token.proofs.Walks.{Read, read}
 use Rattle.keys.proofs.Next as N
 use Rattle.keys.specs.declared.Wanted.the-variants.{Any}

@@ -15,9 +15,9 @@ use Rattle.form.specs.Writing.{wrote, declined}
 use Rattle.form.specs.Finding.{walkAt}
 use Rattle.form.specs.Contents as F
 use Rattle.form.specs.Contents.{span, firstOr, entriesTo, contents, Filling, filled, unfilled, fillingOutcome, entriesLeft, entriesIn, readFile}
-use Rattle.form.proofs.Never.{never}
-use Rattle.form.proofs.InOrder.{length-entries, filled-is}
-use Rattle.form.proofs.FileBack.{length-entries-in}
+use Rattle.laws.proofs.Never.{never}
+use Rattle.laws.proofs.InOrder.{length-entries, filled-is}
+use Rattle.laws.proofs.FileBack.{length-entries-in}
 use Rattle.contents.specs.declared.Entry.{Entry}
 use Rattle.contents.specs.declared.filling.Filled.{Filled}
 use Rattle.contents.specs.declared.filling.Filled.the-variants as L

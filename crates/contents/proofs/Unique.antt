@@ -7,7 +7,7 @@ use Rattle.form.specs.Refusals.{refusalNumber, refusalValue, refusalValues}
 use Rattle.form.specs.Writing.{Outcome, wrote, declined, Follows}
 use Rattle.form.specs.Contents as F
 use Rattle.form.specs.Contents.{Filling, held, nowhere, unsearched, search, searchNumbers, writeFile, writeNumbers, readFile}
-use Rattle.form.proofs.Unique.{same, byNumber, eofOrNumber, follows-one}
+use Rattle.laws.proofs.Unique.{same, byNumber, eofOrNumber, follows-one}
 use Rattle.contents.specs.declared.Entry.{Entry}
 use Rattle.contents.specs.declared.filling.Filled.{Filled}
 use Rattle.contents.specs.declared.filling.Filled.the-variants.{Listed, Eof, InvalidRgb, ListFull, TooLong}

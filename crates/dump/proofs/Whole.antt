@@ -8,8 +8,8 @@ use Rattle.form.specs.Numbers.{Bytes}
 use Rattle.form.specs.Refusals.{Refusal}
 use Rattle.form.specs.Writing.{Output, written, wrote, declined, outcome, leaves}
 use Rattle.form.specs.Listing.{listing, list}
-use Rattle.form.proofs.Never.{never}
-use Rattle.form.proofs.Rooms.{listing-length, list-fits}
+use Rattle.laws.proofs.Never.{never}
+use Rattle.laws.proofs.Rooms.{listing-length, list-fits}
 
 module _ (s d : List ℕ) (b : Bytes s) (h : (length s ≤ 32768) × (442431 ≤ length d)) where
   whole : list (length d) s ≡ written (listing s)

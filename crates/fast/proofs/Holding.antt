@@ -16,12 +16,12 @@ use Rattle.form.specs.Values as F
 use Rattle.form.specs.Table.{Payload, number, text, nothing}
 use Rattle.form.specs.Fast.{fast, slow, front, stepNumber, stepText, stepBy}
 use Rattle.form.specs.Writing.{over}
-use Rattle.form.proofs.Never.{never}
-use Rattle.form.proofs.LittleEndian.{length-bytes, number-same, take-bytes, drop-bytes, bytes-all}
+use Rattle.laws.proofs.Never.{never}
+use Rattle.laws.proofs.LittleEndian.{length-bytes, number-same, take-bytes, drop-bytes, bytes-all}
 use Rattle.form.specs.Refusals.{Fault}
 use Rattle.form.specs.Readers.{found, refused, mapped, at, placed}
 use Rattle.form.specs.Reading.{num, string}
-use Rattle.form.proofs.Places.{num-there, string-there, string-short}
+use Rattle.laws.proofs.Places.{num-there, string-there, string-short}
 use Rattle.payload.specs.Answers.{textOf}
 use Rattle.payload.specs.Compact.{signedBy, compact}
 use Rattle.payload.specs.declared.answers.Text.{Text}

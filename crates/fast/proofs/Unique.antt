@@ -1,7 +1,7 @@
 -- Any two results that the promise of the fast step allows are equal. Assumes nothing.
 use mathlib.Core.Path.{_≡_, refl, ap}
 use Rattle.form.specs.Fast as F
-use Rattle.form.proofs.Unique.{same}
+use Rattle.laws.proofs.Unique.{same}
 use Rattle.lexeme.specs.declared.TokenKind.{TokenKind}
 use Rattle.lexeme.proofs.Unique.{kindOfNumber, kind-back}
 use Rattle.fast.specs.Steps.{stepOf, stepped}

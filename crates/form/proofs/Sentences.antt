@@ -1,38 +1,49 @@
 -- What FORMAT.md says in sentences that no marked specimen tries: a theorem of examples for each part of the definition. Assumes nothing.
 use Prim.Native.Nat.{ℕ, _+_}
 use mathlib.Core.Path.{_≡_, refl}
-use mathlib.Core.Bool.{true}
+use mathlib.Core.Bool.{true, false}
 use mathlib.Core.Option.{none, some}
 use mathlib.Core.List.{List, [], _∷_, _++_}
-use lib.ListN.{replicate}
+use lib.ListN.{length, replicate}
+use lib.Dec.{ltb}
 use Rattle.form.specs.Numbers.{le, leBytes}
 use Rattle.form.specs.Values.{Value, Open, Close, Equal, F64, Lookup, Id, Truth, Quoted, Unquoted, Rgb, kind}
-use Rattle.form.specs.Table.{table, entries, find, orPlain, after}
+use Rattle.form.specs.Table.{table, entries, find, orPlain, after, reserved}
 use Rattle.form.specs.Ids.{OPEN, CLOSE, CHANNEL}
-use Rattle.form.specs.Refusals.{Eof, WideLookup, BadPlace, refusalAt, refusalValue, refusalValues}
-use Rattle.form.specs.Readers.{further, andThen, mapped, _followed-by_, _giving_, at}
+use Rattle.form.specs.Refusals.{Eof, LongString, WideLookup, ReservedId, BadPlace, refusalAt, refusalValue, refusalValues}
+use Rattle.form.specs.Readers.{further, andThen, mapped, _followed-by_, _giving_, give, at}
 use Rattle.form.specs.Reading.{next, piece, num, string, channel, alphaEnd, withAlpha, ending, headed, judged, channels, rgb, payload, token}
 use Rattle.form.specs.Skipping.{stepped, passing, orStop, closed, turned, skipF, skipping, skipContainer}
-use Rattle.form.specs.Calls.{atStart, gives, refuses, within, ended, reads, optional, nexts, ifFound, peeks, landed, skips}
+use Rattle.form.specs.Calls.{cursorAt, atStart, gives, refuses, within, ended, reads, optional, nexts, ifFound, peeks, landed, skips}
 use Rattle.form.specs.Spelling.{tag, body, spell, reason}
 use Rattle.form.specs.Shortest.{heldBy, firstOf, firstIn, otherwise, orSpelled, shortest}
 use Rattle.form.specs.Saves.{Walk, done, then, step, walkF, walk}
 use Rattle.form.specs.Writing.{unwritten, leaves, fitted, write, firstRefusal, unless, normalise}
-use Rattle.form.specs.Fast.{Step, fast, slow, Stepped, front, stepNumber, stepText, stepBy, fastStep}
+use Rattle.form.specs.Fast.{fast, slow, front, stepNumber, stepText, stepBy, fastStep}
 use Rattle.form.specs.Keys.{isOpen, isClose, isEqual, deeper, ahead, makesKey, isKey, those, keysOf, count, counts}
 use Rattle.form.specs.Finding.{isPlain, firstPlain, cutBy, firstly, sought, staying, walkAt, finds}
 use Rattle.form.specs.Ascii.{ascii, decimalF, decimal, spaced, line}
 use Rattle.form.specs.Listing.{name, shown, tokenLine, countWords, endLine, refusalWord, errorLine, linesOf, listing}
-use Rattle.form.proofs.Specimens.{cursor, eof}
+use Rattle.form.proofs.Specimens.{eof}
 
 -- a skip ends with the container that it began in; refused, it stays where its failing read began: after an id whose payload fails, and at an
 -- id cut short
-pub skips-hold : (skips skipContainer (0x03 ∷ 0x00 ∷ 0x04 ∷ 0x00 ∷ 0x04 ∷ 0x00 ∷ []) atStart ≡ gives tt (cursor 6))
+pub skips-hold : (skips skipContainer (0x03 ∷ 0x00 ∷ 0x04 ∷ 0x00 ∷ 0x04 ∷ 0x00 ∷ []) atStart ≡ gives tt (cursorAt 6))
     × (skips skipContainer (0x0f ∷ 0x00 ∷ 0x02 ∷ 0x00 ∷ 0x61 ∷ []) atStart ≡ eof 2 1)
     × (skips skipContainer (0x01 ∷ 0x00 ∷ 0x04 ∷ []) atStart ≡ eof 2 1)
 unfolding le kind table entries find orPlain after OPEN CLOSE CHANNEL refusalAt further andThen mapped _followed-by_ _giving_ next
     num string channel rgb payload at stepped passing orStop closed turned skipF skipping skipContainer within landed skips
 skips-hold = (refl, refl, refl)
+
+-- a colour with an alpha, and a lookup of three bytes by its second id
+pub reads-hold : (reads (at token)
+    (0x43 ∷ 0x02 ∷ 0x03 ∷ 0x00 ∷ 0x14 ∷ 0x00 ∷ 0x01 ∷ 0x00 ∷ 0x00 ∷ 0x00 ∷ 0x14 ∷ 0x00 ∷ 0x02 ∷ 0x00 ∷ 0x00 ∷ 0x00 ∷ 0x14 ∷ 0x00 ∷ 0x03 ∷ 0x00 ∷ 0x00 ∷ 0x00 ∷ 0x14 ∷ 0x00 ∷ 0x04 ∷ 0x00 ∷ 0x00 ∷ 0x00 ∷ 0x04 ∷ 0x00 ∷ [])
+    atStart
+    ≡ gives (Rgb 1 2 3 (some 4)) (cursorAt 30))
+    × (reads (at token) (0x45 ∷ 0x0d ∷ 0x07 ∷ 0x00 ∷ 0x00 ∷ []) atStart ≡ gives (Lookup 7) (cursorAt 5))
+unfolding le table entries find orPlain after OPEN CLOSE CHANNEL further andThen mapped _followed-by_ _giving_ give next piece num channel alphaEnd withAlpha ending headed
+    judged channels rgb payload token at within ended reads
+reads-hold = (refl, refl)
 
 -- what is missing of a piece, not of a token: of an id, a text's length, the text, a colour's first 22 bytes, and its last six; a skip tells it
 -- of a number as it does of an id; and it is returned after the position
@@ -54,7 +65,7 @@ missing-holds = (refl, refl, refl, refl, refl, refl, refl)
 -- a peek moves nothing, and answers none where the read is refused; a cursor past the input is refused, by a `next_..` too
 pub calls-hold : (peeks (at token) (0x03 ∷ 0x00 ∷ []) atStart ≡ gives (some Open) atStart)
     × (peeks (at token) (0x03 ∷ []) atStart ≡ gives none atStart)
-    × (nexts (at token) [] (cursor 1) ≡ refuses (BadPlace 1) (cursor 1))
+    × (nexts (at token) [] (cursorAt 1) ≡ refuses (BadPlace 1) (cursorAt 1))
 unfolding le table entries find orPlain after refusalAt further andThen mapped _followed-by_ _giving_ next num payload token at within ended reads optional
     nexts ifFound peeks
 calls-hold = (refl, refl, refl)
@@ -67,16 +78,25 @@ unfolding le leBytes kind table entries find orPlain after further andThen mappe
     body spell reason step walkF walk leaves fitted write firstRefusal unless normalise
 writing-holds = (refl, refl, refl)
 
+-- a text of 65,536 bytes and more is too long, a reserved id is refused, and a plain one is not; a true is spelled 1
+pub reasons-hold : ((t : List ℕ) → ltb (length t) 65536 ≡ false → reason 9 (Quoted t) ≡ some (LongString 9))
+    × (reason 9 (Id 0x0001) ≡ some (ReservedId 9))
+    × (reason 9 (Id 0x2801) ≡ none)
+    × (spell (Truth true) ≡ 0x0e ∷ 0x00 ∷ 0x01 ∷ [])
+unfolding leBytes tag body spell reserved table entries find reason
+reasons-hold = ((λ t h. rw h), refl, refl, refl)
+
 -- the shortest spellings: an empty text, every lookup, and floats by the bytes of their magnitude
 pub shortest-holds : (shortest (Quoted []) ≡ 0x42 ∷ 0x0d ∷ [])
     × (shortest (Unquoted []) ≡ 0x17 ∷ 0x00 ∷ 0x00 ∷ 0x00 ∷ [])
+    × (shortest (Lookup 7) ≡ 0x40 ∷ 0x0d ∷ 0x07 ∷ [])
     × (shortest (Lookup 16777216) ≡ 0x3f ∷ 0x0d ∷ 0x00 ∷ 0x00 ∷ 0x00 ∷ 0x01 ∷ [])
     × (shortest (F64 0) ≡ 0x47 ∷ 0x0d ∷ [])
     × (shortest (F64 (le (0x00 ∷ replicate 7 0xff))) ≡ 0x50 ∷ 0x0d ∷ 0x00 ∷ 0x01 ∷ [])
     × (shortest (F64 (le (0x01 ∷ replicate 6 0 ++ (0xff ∷ [])))) ≡ 0x55 ∷ 0x0d ∷ replicate 7 0xff)
     × (shortest (F64 (le (replicate 7 0 ++ (0x80 ∷ [])))) ≡ 0x67 ∷ 0x01 ∷ replicate 7 0 ++ (0x80 ∷ []))
 unfolding le leBytes tag body spell heldBy firstOf firstIn otherwise orSpelled shortest
-shortest-holds = (refl, refl, refl, refl, refl, refl, refl)
+shortest-holds = (refl, refl, refl, refl, refl, refl, refl, refl)
 
 -- a lookup changes all the held bytes, a Bool one, which is the byte that stands there; under 16 bytes no step is fast, and nothing is changed
 pub fast-holds : (fastStep (0x40 ∷ 0x0d ∷ 0x07 ∷ replicate 13 0) (replicate 8 0xff) ≡ record { step = fast (kind (Lookup 7)) 3; held = 0x07 ∷ replicate 7 0 })
@@ -115,16 +135,16 @@ keys-hold = (refl, refl, refl, refl, refl)
 pub finds-hold : (finds 0x2802 (0x01 ∷ 0x28 ∷ 0x01 ∷ 0x00 ∷ 0x02 ∷ 0x28 ∷ 0x02 ∷ 0x28 ∷ 0x01 ∷ 0x00 ∷ []) atStart ≡ gives (some 6) atStart)
     × (finds 0x2801 (0x01 ∷ 0x28 ∷ 0x01 ∷ 0x00 ∷ 0x0f ∷ 0x00 ∷ 0x09 ∷ 0x00 ∷ []) atStart ≡ gives (some 0) atStart)
     × (finds 0x2802 (0x03 ∷ 0x00 ∷ 0x02 ∷ 0x28 ∷ 0x01 ∷ 0x00 ∷ 0x04 ∷ 0x00 ∷ []) atStart ≡ gives none atStart)
-    × (finds 0x2802 (0x03 ∷ 0x00 ∷ 0x02 ∷ 0x28 ∷ 0x01 ∷ 0x00 ∷ 0x04 ∷ 0x00 ∷ []) (cursor 2) ≡ gives (some 2) (cursor 2))
+    × (finds 0x2802 (0x03 ∷ 0x00 ∷ 0x02 ∷ 0x28 ∷ 0x01 ∷ 0x00 ∷ 0x04 ∷ 0x00 ∷ []) (cursorAt 2) ≡ gives (some 2) (cursorAt 2))
     × (finds 0x2802 (0x01 ∷ 0x28 ∷ 0x01 ∷ 0x00 ∷ 0x0f ∷ 0x00 ∷ 0x09 ∷ 0x00 ∷ []) atStart ≡ refuses (Eof 4 9) atStart)
     × (finds 0x000e (0x0e ∷ 0x00 ∷ 0x01 ∷ 0x01 ∷ 0x00 ∷ []) atStart ≡ gives none atStart)
     × (finds 0x2801 (0x01 ∷ 0x28 ∷ []) atStart ≡ gives none atStart)
     × (finds 0x2801 (0x01 ∷ 0x28 ∷ 0x01 ∷ []) atStart ≡ refuses (Eof 2 1) atStart)
-    × (finds 0x2801 [] (cursor 1) ≡ refuses (BadPlace 1) (cursor 1))
+    × (finds 0x2801 [] (cursorAt 1) ≡ refuses (BadPlace 1) (cursorAt 1))
     × (finds 0x2801 (0x02 ∷ 0x28 ∷ 0x01 ∷ 0x28 ∷ 0x03 ∷ 0x00 ∷ 0x04 ∷ 0x00 ∷ []) atStart ≡ gives (some 2) atStart)
     × (finds 0x2802 (0x02 ∷ 0x28 ∷ 0x01 ∷ 0x28 ∷ 0x03 ∷ 0x00 ∷ 0x04 ∷ 0x00 ∷ []) atStart ≡ gives none atStart)
     × (finds 0x2801 (0x02 ∷ 0x28 ∷ 0x01 ∷ 0x00 ∷ 0x01 ∷ 0x28 ∷ 0x03 ∷ 0x00 ∷ []) atStart ≡ gives none atStart)
-    × (finds 0x2801 (0x02 ∷ 0x28 ∷ 0x01 ∷ 0x00 ∷ 0x01 ∷ 0x28 ∷ 0x03 ∷ 0x00 ∷ []) (cursor 4) ≡ gives (some 4) (cursor 4))
+    × (finds 0x2801 (0x02 ∷ 0x28 ∷ 0x01 ∷ 0x00 ∷ 0x01 ∷ 0x28 ∷ 0x03 ∷ 0x00 ∷ []) (cursorAt 4) ≡ gives (some 4) (cursorAt 4))
 unfolding le kind table entries find orPlain after refusalAt further andThen mapped _followed-by_ _giving_ next num string payload token step walkF tag
     isOpen isClose isEqual deeper ahead makesKey isKey those keysOf within isPlain firstPlain cutBy firstly sought staying walkAt finds
 finds-hold = (refl, refl, refl, refl, refl, refl, refl, refl, refl, refl, refl, refl, refl)

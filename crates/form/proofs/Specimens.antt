@@ -14,7 +14,7 @@ use Rattle.form.specs.Refusals.{Eof, WideLookup, NoRoom, refusalAt}
 use Rattle.form.specs.Readers.{further, andThen, mapped, _followed-by_, _giving_, at}
 use Rattle.form.specs.Reading.{next, piece, num, string, rgb, payload, token}
 use Rattle.form.specs.Skipping.{stepped, passing, orStop, closed, turned, skipF, skipping, skipContainer, skipValue}
-use Rattle.form.specs.Calls.{Cursor, atStart, Call, gives, refuses, within, ended, reads, optional, nexts, landed, skips}
+use Rattle.form.specs.Calls.{cursorAt, atStart, Call, gives, refuses, within, ended, reads, optional, nexts, landed, skips}
 use Rattle.form.specs.Spelling.{tag, body, spell, reason, writable, wide}
 use Rattle.form.specs.Saves.{step, walkF, walk, values, whole, tokens, spellAll, normal, allNarrow, Clean}
 use Rattle.form.specs.Writing.{Output, written, unwritten, fitted, write, firstRefusal, unless, normalise}
@@ -38,7 +38,7 @@ answer (next-token s) = value-or-none (nexts (at token) s atStart)
 answer (read-token s) = value (reads (at token) s atStart)
 answer (read-id s) = number (reads (at (num 2)) s atStart)
 answer (skip-container s) = skip (skips skipContainer s atStart)
-answer (skip-value-after i p s) = skip (skips (skipValue i) s (record { at = p }))
+answer (skip-value-after i p s) = skip (skips (skipValue i) s (cursorAt p))
 answer (writes room v) = output (write room v)
 answer (normalises room s) = output (normalise room s)
 
@@ -50,17 +50,14 @@ infix 10 _⇒_
 unfoldable pub _⇒_ : Ask → Reply → Specimen
 a ⇒ r = record { ask = a; reply = r }
 
-abbrev pub cursor : ℕ → Cursor
-cursor p = record { at = p }
-
 -- a value, with the cursor after it
 infix 15 _to_
 abbrev pub _to_ : Value → ℕ → Reply
-v to p = value (gives v (cursor p))
+v to p = value (gives v (cursorAt p))
 
 -- nothing read: the position and how many bytes are missing, and the cursor where it was
 abbrev pub eof : {A : Type 0} → ℕ → ℕ → Call A
-eof p m = refuses (Eof p m) (cursor p)
+eof p m = refuses (Eof p m) (cursorAt p)
 
 -- the worked example
 unfoldable pub save : List ℕ
@@ -79,7 +76,7 @@ saveNormal =
 
 unfoldable pub specimens : List Specimen
 specimens =
-    (next-token [] ⇒ value-or-none (gives none (cursor 0)))
+    (next-token [] ⇒ value-or-none (gives none (cursorAt 0)))
     ∷ (read-token [] ⇒ value (eof 0 2))
     ∷ (next-token (0x03 ∷ []) ⇒ value-or-none (eof 0 1))
     ∷ (read-token (0x03 ∷ []) ⇒ value (eof 0 1))
@@ -89,7 +86,7 @@ specimens =
     ∷ (read-token (0x4e ∷ 0x0d ∷ replicate 7 0xff) ⇒ F64 (le (replicate 7 0xff)) to 9)
     ∷ (read-token (0x56 ∷ 0x0d ∷ []) ⇒ Id 3414 to 2)
     ∷ (read-token (0x0f ∷ 0x00 ∷ 0x02 ∷ 0x00 ∷ 0x61 ∷ []) ⇒ value (eof 0 1))
-    ∷ (read-id (0x0f ∷ 0x00 ∷ 0x02 ∷ 0x00 ∷ 0x61 ∷ []) ⇒ number (gives 0x000f (cursor 2)))
+    ∷ (read-id (0x0f ∷ 0x00 ∷ 0x02 ∷ 0x00 ∷ 0x61 ∷ []) ⇒ number (gives 0x000f (cursorAt 2)))
     ∷ (skip-value-after 0x000f 2 (0x0f ∷ 0x00 ∷ 0x02 ∷ 0x00 ∷ 0x61 ∷ []) ⇒ skip (eof 2 1))
     ∷ (normalises 5 (0x3f ∷ 0x0d ∷ 0xff ∷ 0xff ∷ 0xff ∷ 0x00 ∷ []) ⇒ output (written (0x41 ∷ 0x0d ∷ 0xff ∷ 0xff ∷ 0xff ∷ [])))
     ∷ (read-token (0x3f ∷ 0x0d ∷ 0x00 ∷ 0x00 ∷ 0x00 ∷ 0x01 ∷ []) ⇒ Lookup 16777216 to 6)
@@ -97,7 +94,7 @@ specimens =
     ∷ (normalises 99 (0x3f ∷ 0x0d ∷ 0x00 ∷ 0x00 ∷ 0x00 ∷ 0x01 ∷ []) ⇒ output (unwritten (WideLookup 0)))
     ∷ (normalises 3 (0x0e ∷ 0x00 ∷ 0x02 ∷ []) ⇒ output (written (0x0e ∷ 0x00 ∷ 0x01 ∷ [])))
     ∷ (read-token (0x43 ∷ 0x02 ∷ 0x04 ∷ 0x00 ∷ []) ⇒ value (eof 0 20))
-    ∷ (skip-container (0x43 ∷ 0x02 ∷ 0x04 ∷ 0x00 ∷ []) ⇒ skip (gives tt (cursor 4)))
+    ∷ (skip-container (0x43 ∷ 0x02 ∷ 0x04 ∷ 0x00 ∷ []) ⇒ skip (gives tt (cursorAt 4)))
     ∷ (normalises 37 save ⇒ output (written saveNormal))
     ∷ (normalises 36 save ⇒ output (unwritten (NoRoom 37)))
     ∷ []

@@ -12,9 +12,13 @@ use Rattle.form.specs.Skipping.{Skip, past, stopped}
 pub record Cursor : Type 0 where
   pub at : ℕ
 
+-- the cursor at a place of the input
+abbrev pub cursorAt : ℕ → Cursor
+cursorAt p = record { at = p }
+
 -- the cursor of a new lexer
 abbrev pub atStart : Cursor
-atStart = record { at = 0 }
+atStart = cursorAt 0
 
 -- the cursor at another place
 abbrev pub movedTo : Cursor → ℕ → Cursor

@@ -1,16 +1,16 @@
 -- A table of contents: the entries of a save, which of them holds a position, and the file that keeps them.
 use Prim.Native.Nat.{ℕ, zero, suc, _+_, _-_, _*_, _/_, _%_}
-use mathlib.Core.Bool.{Bool, true, false, _&&_}
+use mathlib.Core.Bool.{Bool, true, _&&_}
 use mathlib.Core.Option.{Option, none, some}
 use mathlib.Core.List.{List, [], _∷_, _++_, reverse}
 use lib.ListN.{length, take, drop, getD}
 use lib.Dec.{leb, ltb, eqb}
 use Rattle.form.specs.Numbers.{pick, le, leBytes}
 use Rattle.form.specs.Values.{Value}
-use Rattle.form.specs.Refusals.{Refusal, ListFull, BadIndex, NoRoom, TooLong}
+use Rattle.form.specs.Refusals.{Refusal, ListFull, BadIndex, TooLong}
 use Rattle.form.specs.Spelling.{bit}
 use Rattle.form.specs.Saves.{walk, LIMIT}
-use Rattle.form.specs.Writing.{over, Output, written, unwritten, fitted, Outcome, wrote, declined}
+use Rattle.form.specs.Writing.{over, Output, unwritten, fitted, Outcome, wrote, declined}
 use Rattle.form.specs.Keys.{keysOf}
 use Rattle.form.specs.Finding.{cutBy}
 

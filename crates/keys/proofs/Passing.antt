@@ -11,20 +11,20 @@ use borrow.Author.Tests.{ltb-true, eq-eqb, ne-eqb}
 use Rattle.form.specs.Numbers.{pick, le}
 use Rattle.form.specs.Values as F
 use Rattle.form.specs.Values.{Value, kind}
-use Rattle.form.specs.Table.{Payload, number, text, colour, table, entries, find, orPlain, after, isSome, reserved}
+use Rattle.form.specs.Table.{Payload, number, text, colour, table, entries, find, orPlain, after, reserved}
 use Rattle.form.specs.Refusals.{Fault, refusalAt}
 use Rattle.form.specs.Readers.{Answer, found, refused, mapped, placed, at}
 use Rattle.form.specs.Reading.{next, num, string, rgb, payload, token}
-use Rattle.form.specs.Keys.{ahead, makesKey}
+use Rattle.form.specs.Keys.{makesKey}
 use Rattle.form.specs.Finding.{isPlain, walkAt}
 use Rattle.form.specs.Saves.{then}
-use Rattle.form.proofs.Never.{never}
-use Rattle.form.proofs.Lookups.{plain-after, compact-in, negated-in}
-use Rattle.form.proofs.Elsewhere.{both, eachId, listed, MissedAll, elsewhere}
-use Rattle.form.proofs.Places.{at-giving, at-nothing}
-use Rattle.form.proofs.ById.{OneKind, after-kind}
-use Rattle.form.proofs.Walking.{from, from-end}
-use Rattle.form.proofs.Seeking.{keyHere, seeking, seeking-start, seeking-done, seeking-cut, ahead-id, ahead-none, past-open, past-close, past-equal, past-value, at-key}
+use Rattle.laws.proofs.Never.{never}
+use Rattle.laws.proofs.Lookups.{plain-after, compact-in, negated-in}
+use Rattle.laws.proofs.Elsewhere.{both, eachId, listed, MissedAll, elsewhere}
+use Rattle.laws.proofs.Places.{at-giving, at-nothing}
+use Rattle.laws.proofs.ById.{OneKind, after-kind}
+use Rattle.laws.proofs.Walking.{from, from-end}
+use Rattle.laws.proofs.Seeking.{keyHere, seeking, seeking-start, seeking-done, seeking-cut, ahead-id, ahead-none, past-open, past-close, past-equal, past-value, at-key}
 use Rattle.payload.specs.Answers.{faultOf}
 use Rattle.payload.specs.declared.answers.LexError.{LexError}
 use Rattle.token.specs.Tokens.{tokenOf, tokenAt}

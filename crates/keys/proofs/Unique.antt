@@ -5,11 +5,11 @@ use mathlib.Core.Bool.{Bool}
 use mathlib.Core.Option.{Option, none, some}
 use mathlib.Core.List.{List, [], _∷_}
 use Rattle.form.specs.Values.{Value}
-use Rattle.form.specs.Refusals.{Fault, tooShort, badColour, Refusal, refusalAt, refusalNumber, refusalValue, refusalValues}
+use Rattle.form.specs.Refusals.{Refusal, refusalAt, refusalNumber, refusalValue, refusalValues}
 use Rattle.form.specs.Readers.{Answer, found, refused, at}
 use Rattle.form.specs.Reading.{token}
-use Rattle.form.proofs.Never.{never}
-use Rattle.form.proofs.Unique.{eofOrNumber}
+use Rattle.laws.proofs.Never.{never}
+use Rattle.laws.proofs.Unique.{eofOrNumber}
 use Rattle.payload.specs.declared.answers.LexError.{LexError}
 use Rattle.payload.specs.declared.answers.LexError.the-variants.{Eof, InvalidRgb}
 use Rattle.payload.specs.Answers.{faultOf}

@@ -10,6 +10,7 @@ use Rattle.form.specs.Values.{Value, kind}
 use Rattle.form.specs.Readers.{Answer, found, refused, at}
 use Rattle.form.specs.Table.{after}
 use Rattle.form.specs.Reading.{next, string, payload}
+use Rattle.form.specs.Calls.{cursorAt}
 use Rattle.form.specs.Keys.{ahead, makesKey}
 use Rattle.form.specs.Finding.{walkAt}
 use Rattle.payload.specs.Answers.{faultOf}
@@ -51,7 +52,7 @@ pub record ToldAfter (i : ℕ) (s : List ℕ) (p : ℕ) (r : Passed) : Type 0 wh
 
 -- the token at place p
 unfoldable pub aheadAt : List ℕ → ℕ → Option Value
-aheadAt s p = ahead (walkAt s (record { at = p }))
+aheadAt s p = ahead (walkAt s (cursorAt p))
 
 -- what is asked of a token that is wanted or not, directly after an Equal or not, at depth d, and that ends at place p
 unfoldable pub asked : Bool → Bool → ℕ → List ℕ → ℕ → Bool

@@ -8,6 +8,7 @@ use Rattle.form.specs.Values.{Value}
 use Rattle.form.specs.Refusals.{refusalAt}
 use Rattle.form.specs.Readers.{found, at}
 use Rattle.form.specs.Reading.{token}
+use Rattle.form.specs.Calls.{cursorAt}
 use Rattle.form.specs.Saves.{Walk}
 use Rattle.form.specs.Keys.{atTop, keyThat, those}
 use Rattle.form.specs.Finding.{isPlain, cutBy, walkAt}
@@ -29,7 +30,7 @@ wantsAny (Plain i) = false
 
 -- the walk that begins at a place
 abbrev pub walkFrom : List ℕ → ℕ → Walk
-walkFrom s p = walkAt s (record { at = p })
+walkFrom s p = walkAt s (cursorAt p)
 
 -- its keys that are wanted
 abbrev pub wantedFrom : (Value → Bool) → List ℕ → ℕ → List (ℕ × Value)

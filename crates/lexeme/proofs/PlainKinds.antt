@@ -6,7 +6,7 @@ use lib.Dec.{eqb}
 use Rattle.form.specs.Values.{kind}
 use Rattle.form.specs.Table.{Payload, reserved, entries, table}
 use Rattle.form.specs.Ids.{sample}
-use Rattle.form.proofs.Lookups.{InEach, reserved-after}
+use Rattle.laws.proofs.Lookups.{InEach, reserved-after}
 use Rattle.lexeme.specs.Kinds.{kindBy, kindAt}
 
 -- whether a number is the kind Id's

@@ -3,7 +3,7 @@ use Prim.Native.Nat.{ℕ}
 use mathlib.Core.Path.{_≡_, refl}
 use mathlib.Core.List.{List, [], _∷_}
 use lib.ListN.{getD}
-use Rattle.form.proofs.Unique.{same}
+use Rattle.laws.proofs.Unique.{same}
 use Rattle.lexeme.specs.Kinds.{kindNumber}
 use Rattle.lexeme.specs.declared.TokenKind.{TokenKind}
 use Rattle.lexeme.specs.declared.TokenKind.the-variants.{Open, Close, Equal, U32, U64, I32, Bool, Quoted, Unquoted, F32, F64, Rgb, I64, Lookup, Id}

@@ -16,8 +16,8 @@ use Rattle.form.specs.Readers.{Answer, found, refused, ByPlace, at}
 use Rattle.form.specs.Reading.{token}
 use Rattle.form.specs.Skipping.{Skip, stopped}
 use Rattle.form.specs.Calls.{Cursor, movedTo, positionOf, Call, gives, refuses, within, ended, reads, optional, nexts, ifFound, peeks, landed, skips}
-use Rattle.form.proofs.Never.{never}
-use Rattle.form.proofs.Inside.{Inside, inside-placed, token-inside}
+use Rattle.laws.proofs.Never.{never}
+use Rattle.laws.proofs.Inside.{Inside, inside-placed, token-inside}
 use Rattle.payload.specs.Answers.{faultOf}
 use Rattle.token.specs.Tokens.{tokenOf, tokenAt}
 use Rattle.lexer.specs.Calls.{refusalOf}

@@ -1,14 +1,13 @@
 -- What is answered of a key that is sought, from what the walk finds. Assumes nothing.
 use Prim.Native.Nat.{ℕ}
-use mathlib.Core.Path.{_≡_, refl, ap, _∙_}
+use mathlib.Core.Path.{_≡_, refl, _∙_}
 use mathlib.Core.Option.{Option, none, some}
-use mathlib.Core.List.{List, [], _∷_}
+use mathlib.Core.List.{List}
 use Rattle.form.specs.Values.{Value}
-use Rattle.form.specs.Refusals.{Fault, Refusal, refusalAt}
+use Rattle.form.specs.Refusals.{Refusal, refusalAt}
 use Rattle.form.specs.Calls.{Cursor, movedTo, positionOf, gives, refuses}
-use Rattle.form.specs.Keys.{atTop, keyThat, those}
-use Rattle.form.specs.Finding.{isPlain, cutBy, firstly, Sought, keyAt, absent, notBefore, sought, staying, walkAt}
-use Rattle.form.proofs.Seeking.{headPosition, sought-first}
+use Rattle.form.specs.Finding.{cutBy, firstly, sought, staying, walkAt}
+use Rattle.laws.proofs.Seeking.{headPosition, sought-first}
 use Rattle.payload.specs.Answers.{faultOf}
 use Rattle.payload.specs.declared.answers.LexError.{LexError}
 use Rattle.lexeme.specs.declared.LexemeId.{LexemeId}

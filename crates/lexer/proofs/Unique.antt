@@ -9,7 +9,7 @@ use lib.IntN.{ℤ}
 use Rattle.form.specs.Refusals as F
 use Rattle.form.specs.Values.{Value}
 use Rattle.form.specs.Calls.{Cursor, Call, gives, refuses}
-use Rattle.form.proofs.Unique.{same, eofOrNumber}
+use Rattle.laws.proofs.Unique.{same, eofOrNumber}
 use Rattle.payload.specs.Answers.{colourOf}
 use Rattle.payload.specs.declared.answers.LexError.{LexError}
 use Rattle.payload.specs.declared.answers.LexError.the-variants.{Eof, InvalidRgb}

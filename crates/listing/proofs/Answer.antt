@@ -10,7 +10,7 @@ use Rattle.form.specs.Refusals.{NoRoom, TooLong}
 use Rattle.form.specs.Saves.{LIMIT}
 use Rattle.form.specs.Writing.{written, unwritten, fitted}
 use Rattle.form.specs.Listing.{listing, list}
-use Rattle.form.proofs.Rooms.{listing-length, list-fits}
+use Rattle.laws.proofs.Rooms.{listing-length, list-fits}
 
 -- an output of no bytes keeps none
 pub none-left : (d : List ℕ) → length d ≡ 0 → d ≡ []

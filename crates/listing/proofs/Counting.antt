@@ -15,7 +15,7 @@ use Rattle.form.specs.Values.{Value, Open, Close, Equal, kind}
 use Rattle.form.specs.Spelling.{bit}
 use Rattle.form.specs.Saves.{Walk, done, then}
 use Rattle.form.specs.Keys.{Counts, isOpen, isClose, isEqual, deeper, ahead, Test, anyToken, isContainer, isStray, makesKey, isKey, those, keysOf, count, counts}
-use Rattle.form.proofs.Tests.{around, after-equal, Near, any-near, container-near, stray-near, key-near, near-step}
+use Rattle.laws.proofs.Tests.{around, after-equal, Near, any-near, container-near, stray-near, key-near, near-step}
 use Rattle.token.specs.Tokens.{valueOf}
 use Rattle.token.specs.declared.Token.{Token}
 use Rattle.token.specs.declared.Token.the-variants as T

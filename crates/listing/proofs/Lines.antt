@@ -7,7 +7,7 @@ use mathlib.Core.List.{List}
 use lib.ListN.{length}
 use Rattle.form.specs.Values as F
 use Rattle.form.specs.Listing.{name, shown, tokenLine}
-use Rattle.form.proofs.TextsLast.{ownText, Last, Ends}
+use Rattle.laws.proofs.TextsLast.{ownText, Last, Ends}
 use Rattle.payload.specs.Answers.{textOf}
 use Rattle.payload.specs.Texts.{partOf}
 use Rattle.payload.proofs.Texts.{within}

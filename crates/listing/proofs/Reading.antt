@@ -8,7 +8,7 @@ use Rattle.form.specs.Readers.{found}
 use Rattle.form.specs.Saves.{cut, walk}
 use Rattle.form.specs.Listing.{tokenLine, endLine, errorLine, linesOf, listing}
 use Rattle.form.specs.Keys.{Counts}
-use Rattle.form.proofs.Walking.{from, from-start, from-end}
+use Rattle.laws.proofs.Walking.{from, from-start, from-end}
 use Rattle.token.specs.Tokens.{valueOf, tokenAt}
 use Rattle.token.specs.declared.Token.{Token}
 use Rattle.token.proofs.Walks.{Read, token-read, token-is}

@@ -6,7 +6,7 @@ use lib.ListN.{length}
 use Rattle.form.specs.Refusals.{refusalNumber, refusalValue, refusalValues}
 use Rattle.form.specs.Writing.{Outcome, wrote, declined, Follows}
 use Rattle.form.specs.Listing.{list}
-use Rattle.form.proofs.Unique.{byNumber, follows-one}
+use Rattle.laws.proofs.Unique.{byNumber, follows-one}
 use Rattle.listing.specs.Answers.{listedOutcome}
 use Rattle.listing.specs.declared.Listed.{Listed}
 use Rattle.listing.specs.declared.Listed.the-variants.{Written, NoRoom, TooLong}

@@ -11,10 +11,10 @@ use Rattle.form.specs.Spelling.{reason}
 use Rattle.form.specs.Saves.{walk, normal}
 use Rattle.form.specs.Writing.{Output, written, unwritten, wrote, declined, outcome, leaves, firstRefusal, unless, normalise}
 use Rattle.form.specs.Listing.{errorLine}
-use Rattle.form.proofs.Never.{never}
-use Rattle.form.proofs.Runs.{sets-front}
-use Rattle.form.proofs.Refusing.{OfSave, save-refusal}
-use Rattle.form.proofs.Rooms.{normalise-fits, error-length}
+use Rattle.laws.proofs.Never.{never}
+use Rattle.laws.proofs.Runs.{sets-front}
+use Rattle.laws.proofs.Refusing.{OfSave, save-refusal}
+use Rattle.laws.proofs.Rooms.{normalise-fits, error-length}
 use Rattle.form.specs.Put.{Put}
 use Rattle.normaliser.specs.Stretches.{normalStyle, unbounded}
 use Rattle.normal.specs.Lines.{orLine, shown}

@@ -12,7 +12,7 @@ use types.Run.{OneOf}
 use Rattle.form.specs.Refusals as R
 use Rattle.form.specs.Saves.{walk, LIMIT}
 use Rattle.form.specs.Writing.{Output, written, unwritten, Outcome, wrote, declined, outcome, leaves, Follows, fitted, firstRefusal, unless}
-use Rattle.form.proofs.Never.{never}
+use Rattle.laws.proofs.Never.{never}
 use Rattle.normaliser.specs.declared.Normalised.{Normalised}
 use Rattle.normaliser.specs.declared.Normalised.the-variants.{Written, Eof, InvalidRgb, WideLookup, NoRoom, TooLong}
 use Rattle.normaliser.specs.declared.shortening.Shortened.{Shortened}

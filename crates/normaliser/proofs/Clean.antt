@@ -6,9 +6,9 @@ use lib.ListN.{length, drop}
 use Rattle.form.specs.Numbers.{Bytes}
 use Rattle.form.specs.Saves.{normal, Clean}
 use Rattle.form.specs.Writing.{Output, written, unwritten, wrote, outcome, leaves, Follows, normalise}
-use Rattle.form.proofs.Never.{never}
-use Rattle.form.proofs.Normal.{normal-length}
-use Rattle.form.proofs.Normalising.{clean-fits, normalised}
+use Rattle.laws.proofs.Never.{never}
+use Rattle.laws.proofs.Normal.{normal-length}
+use Rattle.laws.proofs.Normalising.{clean-fits, normalised}
 use Rattle.normaliser.specs.declared.Normalised.{Normalised}
 use Rattle.normaliser.specs.declared.Normalised.the-variants.{Written}
 use Rattle.normaliser.specs.Answers.{normalisedOutcome}

@@ -19,8 +19,8 @@ use Rattle.form.specs.Table.{table, entries}
 use Rattle.form.specs.Spelling.{tag, body, spell}
 use Rattle.form.specs.Saves.{LIMIT, walk}
 use Rattle.form.specs.Writing.{written, unwritten, Outcome, wrote, outcome, leaves, fitted, firstRefusal, unless}
-use Rattle.form.proofs.Never.{never}
-use Rattle.form.proofs.Puts.{put-then, put-none, put-front}
+use Rattle.laws.proofs.Never.{never}
+use Rattle.laws.proofs.Puts.{put-then, put-none, put-front}
 use Rattle.writer.specs.Layouts.{idNumber}
 use Rattle.normaliser.specs.declared.Normalised.{Normalised}
 use Rattle.normaliser.specs.declared.Respelled.{Respelled}

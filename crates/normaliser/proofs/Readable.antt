@@ -8,9 +8,9 @@ use lib.Dec.{T}
 use Rattle.form.specs.Numbers.{Bytes}
 use Rattle.form.specs.Saves.{walk, whole, shortened, LIMIT}
 use Rattle.form.specs.Writing.{Output, written, unwritten, wrote, outcome, leaves, Follows, shorten}
-use Rattle.form.proofs.Never.{never}
-use Rattle.form.proofs.Shortened.{shortened-length}
-use Rattle.form.proofs.Normalising.{whole-fits, shortened-whole}
+use Rattle.laws.proofs.Never.{never}
+use Rattle.laws.proofs.Shortened.{shortened-length}
+use Rattle.laws.proofs.Normalising.{whole-fits, shortened-whole}
 use Rattle.normaliser.specs.declared.shortening.Shortened.{Shortened}
 use Rattle.normaliser.specs.declared.shortening.Shortened.the-variants.{Written}
 use Rattle.normaliser.specs.Answers.{shortenedOutcome}

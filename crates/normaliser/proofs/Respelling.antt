@@ -19,8 +19,8 @@ use Rattle.form.specs.Spelling.{spell, wide}
 use Rattle.form.specs.Shortest.{shortest}
 use Rattle.form.specs.Saves.{Walk, cut}
 use Rattle.form.specs.Writing.{Output, unwritten, Outcome, wrote, declined, outcome, leaves, Follows, fitted, firstRefusal, unless}
-use Rattle.form.proofs.Never.{never}
-use Rattle.form.proofs.LittleEndian.{bytes-all}
+use Rattle.laws.proofs.Never.{never}
+use Rattle.laws.proofs.LittleEndian.{bytes-all}
 use Rattle.token.specs.declared.Token.{Token}
 use Rattle.token.specs.Tokens.{valueOf, tokenAt}
 use Rattle.token.proofs.Walks.{Read, token-read, token-refused}

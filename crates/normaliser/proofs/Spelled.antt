@@ -19,13 +19,13 @@ use Rattle.form.specs.Table.{number, entries}
 use Rattle.form.specs.Readers.{Answer, Reader, found, refused, further, andThen, mapped, at}
 use Rattle.form.specs.Reading.{next as nextOf, num, string, rgb, payload, token}
 use Rattle.form.specs.Spelling.{spell, reason, wide, writable}
-use Rattle.form.proofs.LittleEndian.{drop-bytes, bytes-all}
-use Rattle.form.proofs.Places.{took, num-there, at-giving, by-id, string-then}
-use Rattle.form.proofs.Elsewhere.{eachId, listed, MissedAll, elsewhere}
-use Rattle.form.proofs.Standing as Standing
-use Rattle.form.proofs.Standing.{KeptNumber, KeptText, KeptColour, number-stands, text-stands, colour-stands, alone, plain-alone, alone-kept}
+use Rattle.laws.proofs.LittleEndian.{drop-bytes, bytes-all}
+use Rattle.laws.proofs.Places.{took, num-there, at-giving, by-id, string-then}
+use Rattle.laws.proofs.Elsewhere.{eachId, listed, MissedAll, elsewhere}
+use Rattle.laws.proofs.Standing as Standing
+use Rattle.laws.proofs.Standing.{KeptNumber, KeptText, KeptColour, number-stands, text-stands, colour-stands, alone, plain-alone, alone-kept}
 use Rattle.token.proofs.Walks.{read}
-use Rattle.form.proofs.Never.{never}
+use Rattle.laws.proofs.Never.{never}
 use Rattle.normaliser.specs.declared.spelling.Spelling.{Spelling}
 use Rattle.normaliser.specs.declared.spelling.Spelling.the-variants.{Stands, F64, Lookup, Otherwise}
 use Rattle.normaliser.specs.declared.spelling.Run.{Run}

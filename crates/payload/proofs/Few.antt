@@ -13,8 +13,8 @@ use mir.Val.{Fits}
 use Rattle.form.specs.Numbers.{pick}
 use Rattle.form.specs.Readers.{found, at}
 use Rattle.form.specs.Reading.{num}
-use Rattle.form.proofs.LittleEndian.{within}
-use Rattle.form.proofs.Places.{num-lt}
+use Rattle.laws.proofs.LittleEndian.{within}
+use Rattle.laws.proofs.Places.{num-lt}
 use Rattle.payload.specs.Compact.{atMost7}
 
 pub at-most-7 : (w : ℕ) → atMost7 w ≤ 7

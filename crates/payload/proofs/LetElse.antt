@@ -9,7 +9,7 @@ use denote.Enum.Declared.{tagOf}
 use Rattle.form.specs.Refusals.{Fault, tooShort}
 use Rattle.form.specs.Values as F
 use Rattle.form.specs.Readers.{Answer, found, refused, placed}
-use Rattle.form.proofs.Never.{never}
+use Rattle.laws.proofs.Never.{never}
 use Rattle.payload.specs.Answers.{why, shortBy, rgbAnswer}
 use Rattle.payload.specs.declared.answers.ReadRgb.{ReadRgb}
 use Rattle.payload.specs.declared.answers.ReadRgb.the-variants as C

@@ -5,7 +5,7 @@ use mathlib.Core.List.{List}
 use Rattle.form.specs.Refusals.{Fault}
 use Rattle.form.specs.Readers.{found, refused, Reader, andThen, placed, at}
 use Rattle.form.specs.Reading.{next, piece}
-use Rattle.form.proofs.Places.{piece-then}
+use Rattle.laws.proofs.Places.{piece-then}
 use Rattle.payload.proofs.LetElse.{placed-found, placed-refused}
 
 module _ {A B : Type 0} (g : ℕ → List ℕ → B) (n : ℕ) (f : Reader A) (s : List ℕ) (p : ℕ) where

@@ -9,8 +9,8 @@ use Rattle.form.specs.Values.{Value}
 use Rattle.form.specs.Table.{colour}
 use Rattle.form.specs.Readers.{Answer, found, refused, Reader, further, at}
 use Rattle.form.specs.Reading.{rgb, payload}
-use Rattle.form.proofs.Never.{never}
-use Rattle.form.proofs.Found.{All, payload-in}
+use Rattle.laws.proofs.Never.{never}
+use Rattle.laws.proofs.Found.{All, payload-in}
 use Rattle.split.specs.Splits.{restOf}
 use Rattle.split.proofs.Enough.{rest-drop}
 

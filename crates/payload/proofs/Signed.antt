@@ -9,7 +9,7 @@ use mir.Syntax.{Width, w64}
 use mir.Val.{SFits, toZ, ofZ, bits, hbits}
 use mir.ValLaws.{toZ-pos, toZ-ofZ}
 use Rattle.form.specs.Numbers.{negated}
-use Rattle.form.proofs.Signs.{mag-neg}
+use Rattle.laws.proofs.Signs.{mag-neg}
 
 minus : (k : ℕ) → negsuc 0 -ℤ pos k ≡ negsuc k
 minus zero = refl

@@ -8,7 +8,7 @@ use lib.IntN.{ℤ}
 use Rattle.form.specs.Refusals.{Fault, tooShort, badColour}
 use Rattle.form.specs.Values as F
 use Rattle.form.specs.Readers.{Answer, found, refused}
-use Rattle.form.proofs.Unique.{same}
+use Rattle.laws.proofs.Unique.{same}
 use Rattle.payload.specs.Answers.{faultOf, u8Answer, u16Answer, u32Answer, u64Answer, i32Answer, i64Answer, boolAnswer, idAnswer, textAnswer, alphaOf, colourOf, rgbAnswer}
 use Rattle.payload.specs.declared.answers.LexError.{LexError}
 use Rattle.payload.specs.declared.answers.LexError.the-variants.{Eof, InvalidRgb}

@@ -13,10 +13,10 @@ use Rattle.form.specs.Refusals.{Fault}
 use Rattle.form.specs.Readers.{Answer, found, refused, mapped, placed, at}
 use Rattle.form.specs.Reading.{next, num, string}
 use Rattle.form.specs.Skipping.{passing}
-use Rattle.form.proofs.Lookups.{plain-after, compact-in, negated-in}
-use Rattle.form.proofs.Places.{at-next, at-giving}
-use Rattle.form.proofs.SkipSteps.{pass-number, pass-text, pass-colour}
-use Rattle.form.proofs.Elsewhere.{eachId, listed, MissedAll, elsewhere}
+use Rattle.laws.proofs.Lookups.{plain-after, compact-in, negated-in}
+use Rattle.laws.proofs.Places.{at-next, at-giving}
+use Rattle.laws.proofs.SkipSteps.{pass-number, pass-text, pass-colour}
+use Rattle.laws.proofs.Elsewhere.{eachId, listed, MissedAll, elsewhere}
 use Rattle.skip.specs.Walks.{span, stepsOver}
 
 -- ---- past what a walk steps over after an id

@@ -15,10 +15,10 @@ use Rattle.form.specs.Refusals.{Fault}
 use Rattle.form.specs.Readers.{Answer, found, refused, mapped, at}
 use Rattle.form.specs.Reading.{num, rgb, payload}
 use Rattle.form.specs.Skipping.{past, stopped, stepped, passing, orStop, closed, turned, skipping, skipContainer, skipValue}
-use Rattle.form.proofs.Lookups.{open-is, close-is, plain-after}
-use Rattle.form.proofs.Places.{took}
-use Rattle.form.proofs.SkipSteps.{cut-id, cut-payload, turn, turned-open, turned-up, turned-on}
-use Rattle.form.proofs.Elsewhere.{elsewhere}
+use Rattle.laws.proofs.Lookups.{open-is, close-is, plain-after}
+use Rattle.laws.proofs.Places.{took}
+use Rattle.laws.proofs.SkipSteps.{cut-id, cut-payload, turn, turned-open, turned-up, turned-on}
+use Rattle.laws.proofs.Elsewhere.{elsewhere}
 use Rattle.skip.specs.Walks.{stepsOver, walkFrom, walkAfter, Turned}
 use Rattle.skip.specs.declared.walk.Turn.{Turn}
 use Rattle.skip.specs.declared.walk.Turn.the-variants.{On}

@@ -4,7 +4,7 @@ use mathlib.Core.Path.{_≡_, refl}
 use mathlib.Core.List.{List}
 use Rattle.form.specs.Refusals.{tooShort, badColour}
 use Rattle.form.specs.Skipping.{Skip, past, stopped, skipContainer, skipValue}
-use Rattle.form.proofs.Unique.{same}
+use Rattle.laws.proofs.Unique.{same}
 use Rattle.payload.specs.declared.answers.LexError.the-variants.{Eof, InvalidRgb}
 use Rattle.skip.specs.Skips.{skipAnswer}
 use Rattle.skip.specs.declared.Skipped.{Skipped}

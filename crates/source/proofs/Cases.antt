@@ -10,7 +10,7 @@ use lib.Seq.{sets, length-sets}
 use borrow.Author.Tests.{le-leb, lt-leb, leb-true}
 use Rattle.form.specs.Numbers.{pick}
 use Rattle.form.specs.Refusals.{Refusal, Eof, BufferTooSmall, ReadFailed, BadPlace}
-use Rattle.form.proofs.Runs.{part-length}
+use Rattle.laws.proofs.Runs.{part-length}
 use Rattle.source.specs.declared.ParserSource.{ParserSource}
 use Rattle.source.specs.declared.Check.{Check}
 use Rattle.source.specs.declared.Check.the-variants.{Fine, Bad}

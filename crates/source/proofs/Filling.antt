@@ -10,7 +10,7 @@ use lib.ListN.{length, getD, take, drop, drop-of-length-le, length-drop}
 use lib.Seq.{sets, length-sets, drop-cons, drop-drop}
 use borrow.Author.Tests.{eq-eqb, ne-eqb, eqb-true}
 use Rattle.form.specs.Numbers.{pick}
-use Rattle.form.proofs.Runs.{part-length}
+use Rattle.laws.proofs.Runs.{part-length}
 use Rattle.source.specs.declared.reads.Reads.{Reads}
 use Rattle.source.specs.Reads.{FAILS, came, one, onward, fill}
 use Rattle.source.proofs.Stores.{sets-then, part-add}

@@ -6,7 +6,7 @@ use native.Mathlib.Omega.{arith}
 use lib.ListN.{take, drop}
 use lib.Seq.{take-append-le, take-take}
 use Rattle.form.specs.Numbers.{le}
-use Rattle.form.proofs.Runs.{part-length}
+use Rattle.laws.proofs.Runs.{part-length}
 use Rattle.payload.specs.declared.answers.Text.{Text}
 use Rattle.payload.proofs.Texts.{within}
 use Rattle.source.specs.declared.ParserSource.{ParserSource}

@@ -13,7 +13,7 @@ use Rattle.form.specs.Numbers.{pick}
 use Rattle.form.specs.Refusals.{isEof}
 use Rattle.form.specs.Values.{Value, Rgb}
 use Rattle.form.specs.Ids.{OPEN, CLOSE, CHANNEL}
-use Rattle.form.proofs.Runs.{part-length}
+use Rattle.laws.proofs.Runs.{part-length}
 use Rattle.payload.specs.declared.answers.Text.{Text}
 use Rattle.source.specs.declared.ParserSource.{ParserSource}
 use Rattle.source.specs.declared.reads.Reads.{Reads}

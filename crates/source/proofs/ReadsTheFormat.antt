@@ -16,8 +16,8 @@ use Rattle.form.specs.Refusals.{Refusal, isEof}
 use Rattle.form.specs.Readers as R
 use Rattle.form.specs.Readers.{Reader, found, _followed-by_, _giving_, give}
 use Rattle.form.specs.Reading as F
-use Rattle.form.proofs.Never.{never}
-use Rattle.form.proofs.Found.{All, next-there, Whole, piece-there, channels-whole, alpha-whole}
+use Rattle.laws.proofs.Never.{never}
+use Rattle.laws.proofs.Found.{All, next-there, Whole, piece-there, channels-whole, alpha-whole}
 use Rattle.payload.specs.declared.answers.Text.{Text}
 use Rattle.payload.proofs.Texts.{within}
 use Rattle.source.specs.declared.ParserSource.{ParserSource}

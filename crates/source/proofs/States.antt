@@ -5,7 +5,7 @@ use Prim.Native.Nat.{ℕ, _+_, _-_, _≤_, _<_}
 use lib.Dec.{ltb}
 use borrow.Author.Tests.{ltb-false, lt-ltb, le-ltb}
 use Rattle.form.specs.Numbers.{pick, MAX}
-use Rattle.form.proofs.Never.{never}
+use Rattle.laws.proofs.Never.{never}
 use Rattle.source.specs.declared.ParserSource.{ParserSource}
 use Rattle.source.specs.declared.Check.the-variants.{Fine, Bad}
 use Rattle.source.specs.Window.{unread, checked}

@@ -5,7 +5,7 @@ use Prim.Native.Nat.{ℕ, _+_, _-_, _≤_, _<_}
 use native.Mathlib.Omega.{arith}
 use lib.ListN.{length, take, drop, getD, set}
 use lib.Seq.{sets, sets-eq, drop-drop, drop-set-lt, take-at, take-add}
-use Rattle.form.proofs.Runs.{sets-append, copy-step}
+use Rattle.laws.proofs.Runs.{sets-append, copy-step}
 
 -- two runs are one run, where the second begins at a place that is given otherwise
 pub sets-then : (a b l : List ℕ) (i j : ℕ) → j ≡ i + length a → sets (sets l i a) j b ≡ sets l i (a ++ b)

@@ -11,8 +11,8 @@ use borrow.Author.Tests.{eq-eqb, ne-eqb}
 use Rattle.form.specs.Numbers.{pick}
 use Rattle.form.specs.Values.{Rgb}
 use Rattle.form.specs.Refusals.{Refusal, InvalidRgb, isEof}
-use Rattle.form.proofs.Never.{never}
-use Rattle.form.proofs.Lookups.{open-is, close-is, channel-is}
+use Rattle.laws.proofs.Never.{never}
+use Rattle.laws.proofs.Lookups.{open-is, close-is, channel-is}
 use Rattle.payload.specs.declared.answers.Text.{Text}
 use Rattle.source.specs.declared.ParserSource.{ParserSource}
 use Rattle.source.specs.declared.answers.Stop.{Stop}

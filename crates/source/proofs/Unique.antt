@@ -7,7 +7,7 @@ use mathlib.Core.List.{List, [], _∷_}
 use Prim.Native.Nat.{ℕ}
 use Rattle.form.specs.Refusals as F
 use Rattle.form.specs.Values.{Value}
-use Rattle.form.proofs.Unique.{same, eofOrNumber}
+use Rattle.laws.proofs.Unique.{same, eofOrNumber}
 use Rattle.payload.specs.declared.answers.Text.{Text}
 use Rattle.payload.specs.Answers.{colourOf}
 use Rattle.payload.proofs.Unique.{colour-one}

@@ -10,7 +10,7 @@ use mir.Syntax.{w64}
 use mir.Val.{SFits, ofZ, toZ}
 use mir.ValLaws.{toZ-ofZ}
 use Rattle.form.specs.Ascii.{ascii, decimal, signed}
-use Rattle.form.proofs.Signs.{n, is}
+use Rattle.laws.proofs.Signs.{n, is}
 
 -- a signed number, by the code's test of its sign
 module _ (x : ℤ) (s : SFits w64 x) where

@@ -13,7 +13,7 @@ use borrow.Author.Tests.{lt-ltb, le-ltb, ltb-false}
 use Rattle.form.specs.Numbers.{pick, leBytes}
 use Rattle.form.specs.Ascii.{ascii, digit, decimalF, decimal, hex, hexOrDash, spaced}
 use Rattle.form.specs.Put.{Put}
-use Rattle.form.proofs.Puts.{put-then}
+use Rattle.laws.proofs.Puts.{put-then}
 
 -- what is left of src
 pub drop-one : (src : List ℕ) (j : ℕ) → j < length src → drop j src ≡ (getD src j 0 ∷ []) ++ drop (j + 1) src

@@ -11,7 +11,7 @@ use Rattle.form.specs.Values as F
 use Rattle.form.specs.Table.{Payload, number, text, colour, nothing, after}
 use Rattle.form.specs.Readers.{Answer, found, refused, andThen, ByPlace, at, mapped, placed}
 use Rattle.form.specs.Reading.{num, string, rgb, payload}
-use Rattle.form.proofs.Places.{at-giving, by-id, num-there, token-then}
+use Rattle.laws.proofs.Places.{at-giving, by-id, num-there, token-then}
 use Rattle.lexeme.specs.declared.LexemeId.{LexemeId}
 use Rattle.payload.specs.Answers.{shortBy, idAnswer, textOf, colourOf, alphaOf}
 use Rattle.payload.specs.Compact.{atMost7, signedBy, compact}

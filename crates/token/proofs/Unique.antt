@@ -1,11 +1,11 @@
 -- Any two results that a promise allows are equal (of `refusal`: payload's `refusal-one`). No promise fixes the address of a returned part,
 -- only its bytes. Assumes nothing.
 use Prim.Native.Nat.{ℕ}
-use mathlib.Core.Path.{_≡_, refl, sym, ap, _∙_}
+use mathlib.Core.Path.{_≡_, refl, sym, _∙_}
 use mathlib.Core.List.{List}
 use Rattle.form.specs.Refusals.{tooShort, badColour}
 use Rattle.form.specs.Readers.{Answer, found, refused}
-use Rattle.form.proofs.Unique.{same}
+use Rattle.laws.proofs.Unique.{same}
 use Rattle.payload.specs.declared.answers.Text.{Text}
 use Rattle.token.specs.Tokens.{tokenAnswer, tokenAt}
 use Rattle.payload.specs.Texts.{partOf}

@@ -6,8 +6,8 @@ use mathlib.Core.List.{List}
 use Rattle.form.specs.Values as F
 use Rattle.form.specs.Readers.{Answer, found, refused, at, mapped, placed}
 use Rattle.form.specs.Reading.{token}
-use Rattle.form.proofs.Found.{All}
-use Rattle.form.proofs.TextsLast.{ownText, Ends, token-ends-at}
+use Rattle.laws.proofs.Found.{All}
+use Rattle.laws.proofs.TextsLast.{ownText, Ends, token-ends-at}
 use Rattle.token.specs.Tokens.{tokenOf, valueOf, tokenAt}
 
 pub value-token : (s : List ℕ) (v : F.Value) (e : ℕ) → Ends s v e → valueOf s (tokenOf e v) ≡ v

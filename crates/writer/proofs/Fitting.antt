@@ -9,7 +9,7 @@ use borrow.Author.Tests.{leb-true, leb-false}
 use Rattle.form.specs.Numbers.{pick}
 use Rattle.form.specs.Refusals.{Refusal, NoRoom}
 use Rattle.form.specs.Writing.{Output, written, unwritten, wrote, declined, outcome, fitted}
-use Rattle.form.proofs.Never.{never}
+use Rattle.laws.proofs.Never.{never}
 
 module _ (room : ℕ) (bs : List ℕ) where
   abbrev by : Bool → Output

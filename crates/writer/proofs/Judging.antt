@@ -12,7 +12,7 @@ use denote.Enum.Declared.{tagOf}
 use Rattle.form.specs.Numbers.{pick, MAX}
 use Rattle.form.specs.Refusals as R
 use Rattle.form.specs.Writing.{Output, written, unwritten, wrote, outcome, leaves, Follows, fitted, unless}
-use Rattle.form.proofs.Never.{never}
+use Rattle.laws.proofs.Never.{never}
 use Rattle.writer.specs.declared.Wrote.{Wrote}
 use Rattle.writer.proofs.Wrote.{the-type}
 use Rattle.writer.specs.declared.Wrote.the-variants.{Written, LongString, WideLookup, ReservedId, NoRoom, BadPlace}
@@ -21,7 +21,7 @@ use Rattle.writer.specs.declared.layout.Layout.{Layout}
 use Rattle.writer.specs.Layouts.{spelledBy, misplacedBy, reasonBy, writeBy}
 use Rattle.form.specs.Put.{Put}
 use Rattle.writer.proofs.Fitting.{fitted-written}
-use Rattle.form.proofs.Puts.{put-front}
+use Rattle.laws.proofs.Puts.{put-front}
 
 -- a refusal leaves the output unchanged
 pub refused-leaves : (o : Output) (r : Wrote) (d : List ℕ) → wroteOutcome r ≡ outcome o → OneOf (1 ∷ 2 ∷ 3 ∷ 4 ∷ 5 ∷ []) (tagOf the-type r) → leaves o d ≡ d

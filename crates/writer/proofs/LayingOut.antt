@@ -16,8 +16,8 @@ use Rattle.form.specs.Table.{table, entries}
 use Rattle.form.specs.Spelling.{tag, body, spell, reason, bit}
 use Rattle.form.specs.Refusals.{LongString, BadPlace}
 use Rattle.form.specs.Writing.{Output, fitted, unless, write}
-use Rattle.form.proofs.Never.{never}
-use Rattle.form.proofs.Runs.{part-length}
+use Rattle.laws.proofs.Never.{never}
+use Rattle.laws.proofs.Runs.{part-length}
 use Rattle.payload.specs.declared.answers.Text.{Text as Place}
 use Rattle.token.specs.declared.Token.{Token}
 use Rattle.token.specs.declared.Token.the-variants as T

@@ -16,10 +16,10 @@ use Rattle.form.specs.Values.{kind}
 use Rattle.form.specs.Spelling.{tag, body, spell, reason}
 use Rattle.form.specs.Shortest.{Width, heldBy, firstIn, otherwise, orSpelled, shortest, shortReason}
 use Rattle.form.specs.Writing.{unless, write, writeShortest}
-use Rattle.form.proofs.Never.{never}
-use Rattle.form.proofs.Lookups.{arm}
-use Rattle.form.proofs.Widths.{more-bytes}
-use Rattle.form.proofs.ShortSpellings.{float-compact, float-negated, float-plain}
+use Rattle.laws.proofs.Never.{never}
+use Rattle.laws.proofs.Lookups.{arm}
+use Rattle.laws.proofs.Widths.{more-bytes}
+use Rattle.laws.proofs.ShortSpellings.{float-compact, float-negated, float-plain}
 use Rattle.payload.specs.declared.answers.Text.{Text as Place}
 use Rattle.payload.specs.Texts.{lies}
 use Rattle.token.specs.declared.Token.{Token}

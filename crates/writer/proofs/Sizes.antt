@@ -9,8 +9,8 @@ use Rattle.form.specs.Spelling.{spelledChannel, spelledAlpha}
 use Rattle.payload.specs.declared.answers.Alpha.{Alpha}
 use Rattle.payload.specs.declared.answers.Alpha.the-variants.{Absent, Given}
 use Rattle.payload.specs.declared.answers.Rgb.{Rgb}
-use Rattle.form.proofs.LittleEndian.{length-bytes}
-use Rattle.form.proofs.ReadsBack.{channel-length}
+use Rattle.laws.proofs.LittleEndian.{length-bytes}
+use Rattle.laws.proofs.ReadsBack.{channel-length}
 use Rattle.writer.specs.Layouts.{idNumber, idText, colourEnd, channels, idColour}
 
 pub number-size : (i w n : ℕ) → length (idNumber i w n) ≡ 2 + w

@@ -5,7 +5,7 @@ use mathlib.Core.List.{List, [], _∷_}
 use lib.ListN.{length}
 use Rattle.form.specs.Refusals.{refusalNumber, refusalValue, refusalValues}
 use Rattle.form.specs.Writing.{Outcome, wrote, declined, Follows, fitted}
-use Rattle.form.proofs.Unique.{byNumber, follows-one}
+use Rattle.laws.proofs.Unique.{byNumber, follows-one}
 use Rattle.token.specs.declared.Token.{Token}
 use Rattle.writer.specs.declared.Wrote.{Wrote}
 use Rattle.writer.specs.declared.Wrote.the-variants.{Written, LongString, WideLookup, ReservedId, NoRoom, BadPlace}

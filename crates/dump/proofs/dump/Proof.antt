@@ -1,6 +1,6 @@
 -- `dump::dump` meets its contract. Assumes nothing.
 use mathlib.Core.Path.{sym, ap, _∙_}
-use Rattle.form.proofs.LittleEndian.{bytes-all}
+use Rattle.laws.proofs.LittleEndian.{bytes-all}
 use Rattle.listing.specs.Answers.{listedOutcome}
 use Rattle.dump.proofs.Whole.{dumped, never-declined}
 use borrow.Author.Needs.{needs}

@@ -4,7 +4,7 @@ use lib.Seq.{length-take-le}
 use borrow.Author.Needs.{needs}
 use Rattle.form.specs.Writing.{written, wrote, outcome}
 use Rattle.form.specs.Listing.{listing}
-use Rattle.form.proofs.Outputs.{wrote-within}
+use Rattle.laws.proofs.Outputs.{wrote-within}
 use Rattle.dump.proofs.show.Statement.{statement}
 use Rattle.dump.proofs.show.Tie as tie
 

@@ -6,7 +6,7 @@ use lib.Dec.{lit≤}
 use Rattle.form.specs.Values as F
 use Rattle.form.specs.Table.{after, orPlain, find, entries, table}
 use Rattle.form.specs.Fast.{front, stepBy}
-use Rattle.form.proofs.Lookups.{unquoted-at, lookup1-at, lookup2-at, lookup3-at, lookup4-at, range-from, compact-at, negated-in, plain-below, plain-above}
+use Rattle.laws.proofs.Lookups.{unquoted-at, lookup1-at, lookup2-at, lookup3-at, lookup4-at, range-from, compact-at, negated-in, plain-below, plain-above}
 use Rattle.lexeme.specs.declared.TokenKind.the-variants.{Open, Close, Equal, U32, U64, I32, Bool, Quoted, Unquoted, F32, F64, I64}
 use Rattle.fast.proofs.Holding.{at-most-7, narrow, Ready, copy-arm, lookup-arm, compact-arm, negated-arm, text-arm, alone-arm, zeros-held, id-arm, arm-by}
 use borrow.Author.Needs.{needs}

@@ -3,14 +3,13 @@ use borrow.Author.Needs.{needs}
 use Prim.Native.Nat.{ℕ}
 use native.Mathlib.Omega.{arith}
 use mathlib.Core.Path.{refl}
-use mathlib.Core.Bool.{_&&_}
 use mathlib.Core.Option.{none, some}
 use mathlib.Core.List.{List, [], _∷_}
 use lib.Dec.{leb}
 use borrow.Author.Tests.{lt-leb}
 use Rattle.form.specs.Values.{kind}
 use Rattle.form.specs.Table.{table, entries, find, orPlain, after, reserved}
-use Rattle.form.proofs.Lookups.{arm}
+use Rattle.laws.proofs.Lookups.{arm}
 use Rattle.keys.proofs.Passing.{spansAt, by-span, by-open, by-close, by-equal, by-colour, by-compact, by-negated, elsewhere-plain}
 use Rattle.keys.proofs.by_id.Statement.{statement}
 use Rattle.keys.proofs.by_id.Tie as tie

@@ -6,8 +6,8 @@ use native.Mathlib.Omega.{arith}
 use mathlib.Core.Path.{_≡_, refl, _∙_}
 use mathlib.Core.Bool.{false}
 use lib.ListN.{length}
-use Rattle.form.proofs.Walking.{from}
-use Rattle.form.proofs.Seeking.{seeking}
+use Rattle.laws.proofs.Walking.{from}
+use Rattle.laws.proofs.Seeking.{seeking}
 use Rattle.keys.specs.Seeking.{wants}
 use Rattle.keys.proofs.Passing.{known, plain-may, other-may, to-open, to-close, to-equal, to-value, to-key, to-refused, to-end}
 use Rattle.keys.proofs.next_key.Statement.{statement}

@@ -2,7 +2,7 @@
 use borrow.Author.Needs.{needs}
 use mathlib.Core.Path.{refl, _∙_}
 use Rattle.form.specs.Readers.{andThen}
-use Rattle.form.proofs.Places.{by-id, token-then}
+use Rattle.laws.proofs.Places.{by-id, token-then}
 use Rattle.payload.specs.Answers.{idAnswer}
 use Rattle.payload.proofs.LetElse.{gotOf, lackOf}
 use Rattle.keys.proofs.Passing.{after-id}

@@ -6,8 +6,8 @@ use native.Mathlib.Omega.{arith}
 use lib.ListN.{length}
 use Rattle.form.specs.Writing.{wrote, outcome, leaves}
 use Rattle.form.specs.Listing.{listing}
-use Rattle.form.proofs.LittleEndian.{bytes-all}
-use Rattle.form.proofs.Runs.{sets-front}
+use Rattle.laws.proofs.LittleEndian.{bytes-all}
+use Rattle.laws.proofs.Runs.{sets-front}
 use Rattle.form.specs.Numbers.{MAX}
 use Rattle.listing.proofs.Answer.{none-left, too-long, measured, fits, lacks}
 use borrow.Author.Needs.{needs}

@@ -1,7 +1,7 @@
 -- `listing::put_end` meets its contract. Assumes nothing.
 use Rattle.form.specs.Ascii.{line}
 use Rattle.form.specs.Listing.{endLine}
-use Rattle.form.proofs.Puts.{put-then}
+use Rattle.laws.proofs.Puts.{put-then}
 use Rattle.text.proofs.Words.{put-words}
 use borrow.Author.Needs.{needs}
 use Rattle.listing.proofs.put_end.Statement.{statement}

@@ -1,14 +1,14 @@
 -- `listing::put_listing` meets its contract. The invariant: what is left to write, written to the output as it is, gives what the promise says.
 -- Assumes nothing.
 use borrow.Author.Needs.{needs}
-use mathlib.Core.Path.{_≡_, refl, ap, _∙_}
+use mathlib.Core.Path.{_≡_, ap, _∙_}
 use Prim.Native.Nat.{_+_, _-_, _≤_}
 use native.Mathlib.Omega.{arith}
 use lib.ListN.{length}
 use Rattle.form.specs.Listing.{listing}
 use Rattle.payload.proofs.LetElse.{gotOf}
 use Rattle.token.proofs.LetElse.{token-else}
-use Rattle.form.proofs.Puts.{Left, left-all, left-step, left-last}
+use Rattle.laws.proofs.Puts.{Left, left-all, left-step, left-last}
 use Rattle.token.specs.Tokens.{valueOf, tokenAnswer}
 use Rattle.token.proofs.Walks.{token-read, token-refused}
 use Rattle.listing.specs.declared.tally.Tally.{Tally}

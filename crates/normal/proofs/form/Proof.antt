@@ -4,7 +4,7 @@ use mathlib.Core.Path.{sym, ap, _∙_}
 use Rattle.form.specs.Refusals as R
 use Rattle.form.specs.Refusals.{refusalValue, refusalValues}
 use Rattle.form.specs.Listing.{refusalWord, errorLine}
-use Rattle.form.proofs.LittleEndian.{bytes-all}
+use Rattle.laws.proofs.LittleEndian.{bytes-all}
 use Rattle.normaliser.specs.Answers.{normalisedOutcome}
 use Rattle.normal.proofs.Whole.{normalised, why, lined}
 use borrow.Author.Needs.{needs}

@@ -4,7 +4,7 @@ use lib.Seq.{length-take-le}
 use borrow.Author.Needs.{needs}
 use Rattle.form.specs.Writing.{written, wrote, outcome}
 use Rattle.normal.specs.Lines.{shown}
-use Rattle.form.proofs.Outputs.{wrote-within}
+use Rattle.laws.proofs.Outputs.{wrote-within}
 use Rattle.normal.proofs.show.Statement.{statement}
 use Rattle.normal.proofs.show.Tie as tie
 

@@ -2,7 +2,6 @@
 use borrow.Author.Needs.{needs}
 use Prim.Native.Nat.{_<_}
 use native.Mathlib.Omega.{arith}
-use mathlib.Core.Path.{refl}
 use lib.ListN.{length}
 use Rattle.payload.proofs.LetElse.{gotOf}
 use Rattle.token.proofs.LetElse.{token-else}

@@ -6,7 +6,7 @@ use lib.ListN.{length, drop, length-drop}
 use lib.Seq.{length-take-le}
 use borrow.Author.Needs.{needs}
 use Rattle.form.specs.Readers.{placed}
-use Rattle.form.proofs.Places.{at-next, at-short}
+use Rattle.laws.proofs.Places.{at-next, at-short}
 use Rattle.split.proofs.Enough.{there, short}
 use Rattle.payload.proofs.read_bytes.Statement.{statement}
 use Rattle.payload.proofs.read_bytes.Tie as tie

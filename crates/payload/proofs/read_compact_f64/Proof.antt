@@ -1,5 +1,4 @@
 -- `payload::read_compact_f64` meets its contract. Assumes nothing.
-use Prim.Native.Nat.{_^_, _≤_}
 use mathlib.Core.Path.{refl, sym}
 use borrow.Author.Needs.{needs}
 use Rattle.form.specs.Readers.{mapped}

@@ -4,7 +4,7 @@ use native.Mathlib.Omega.{arith}
 use mir.Syntax.{w32}
 use mir.Val.{toZ, ofZ}
 use Rattle.form.specs.Readers.{mapped}
-use Rattle.form.proofs.Places.{num-lt}
+use Rattle.laws.proofs.Places.{num-lt}
 use borrow.Author.Needs.{needs}
 use Rattle.payload.specs.Answers.{u64Answer}
 use Rattle.payload.proofs.LetElse.{gotOf, lackOf}

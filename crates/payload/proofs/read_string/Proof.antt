@@ -1,7 +1,7 @@
 -- `payload::read_string` meets its contract. Assumes nothing.
-use mathlib.Core.Path.{refl, ap, _∙_}
+use mathlib.Core.Path.{refl}
 use Rattle.form.specs.Readers.{andThen, placed}
-use Rattle.form.proofs.Places.{string-then}
+use Rattle.laws.proofs.Places.{string-then}
 use borrow.Author.Needs.{needs}
 use Rattle.payload.specs.Answers.{u64Answer, textAnswer}
 use Rattle.payload.proofs.LetElse.{gotOf, lackOf}

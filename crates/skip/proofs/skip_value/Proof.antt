@@ -1,5 +1,5 @@
 -- `skip::skip_value` meets its contract. Assumes nothing.
-use mathlib.Core.Path.{refl, sym, _∙_}
+use mathlib.Core.Path.{sym, _∙_}
 use borrow.Author.Tests.{eqb-false}
 use Rattle.payload.specs.Answers.{rgbAnswer}
 use Rattle.payload.proofs.LetElse.{gotOf, colour-else}

@@ -4,7 +4,7 @@ use Prim.Native.Nat.{ℕ, _<_}
 use native.Mathlib.Omega.{arith}
 use borrow.Fn.Kinds.{In}
 use borrow.Fn.PlainCycle.{Measures, is, falls, and}
-use Rattle.form.proofs.Puts.{put-then}
+use Rattle.laws.proofs.Puts.{put-then}
 use Rattle.text.proofs.Words.{decimal-one, decimal-more}
 use Rattle.text.proofs.put_decimal.Reads as put-decimal
 use Rattle.text.proofs.put_decimal.Kinds as put-decimal-kinds

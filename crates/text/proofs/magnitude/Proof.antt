@@ -1,7 +1,7 @@
 -- `text::magnitude` meets its contract. By the laws of signed numbers. Assumes nothing.
 use native.Mathlib.Omega.{arith}
 use mir.Syntax.{w64}
-use Rattle.form.proofs.Signs.{below, more-fits, less-fits, less-shown, positive}
+use Rattle.laws.proofs.Signs.{below, more-fits, less-fits, less-shown, positive}
 use Rattle.text.proofs.Sign.{size-is}
 use borrow.Author.Needs.{needs}
 use Rattle.text.proofs.magnitude.Statement.{statement}

@@ -4,7 +4,7 @@ use borrow.Author.Needs.{needs}
 use Prim.Native.Nat.{_-_, _≤_}
 use native.Mathlib.Omega.{arith}
 use lib.ListN.{length, drop, drop-of-length-le}
-use Rattle.form.proofs.Puts.{Left, left-all, left-step, left-done}
+use Rattle.laws.proofs.Puts.{Left, left-all, left-step, left-done}
 use Rattle.text.proofs.Words.{drop-one}
 use Rattle.text.proofs.put_all.Statement.{statement}
 use Rattle.text.proofs.put_all.Tie as tie

@@ -1,6 +1,6 @@
 -- `text::put_error` meets its contract. Assumes nothing.
 use Rattle.form.specs.Ascii.{line}
-use Rattle.form.proofs.Puts.{put-then}
+use Rattle.laws.proofs.Puts.{put-then}
 use borrow.Author.Needs.{needs}
 use Rattle.text.proofs.put_error.Statement.{statement}
 use Rattle.text.proofs.put_error.Tie as tie

@@ -4,7 +4,7 @@ use Prim.Native.Nat.{_-_, _≤_}
 use native.Mathlib.Omega.{arith}
 use lib.ListN.{length, drop}
 use Rattle.form.specs.Ascii.{hex}
-use Rattle.form.proofs.Puts.{Left, left-all, left-step, left-done}
+use Rattle.laws.proofs.Puts.{Left, left-all, left-step, left-done}
 use Rattle.text.proofs.Words.{hex-one, hex-all}
 use Rattle.text.proofs.put_hex.Statement.{statement}
 use Rattle.text.proofs.put_hex.Tie as tie

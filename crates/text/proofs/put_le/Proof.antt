@@ -3,7 +3,7 @@ use borrow.Author.Needs.{needs}
 use native.Mathlib.Omega.{arith}
 use Rattle.form.specs.Numbers.{leBytes}
 use Rattle.form.specs.Ascii.{hex}
-use Rattle.form.proofs.Puts.{Left, left-all, left-step, left-done}
+use Rattle.laws.proofs.Puts.{Left, left-all, left-step, left-done}
 use Rattle.text.proofs.Words.{le-one, le-none}
 use Rattle.text.proofs.put_le.Statement.{statement}
 use Rattle.text.proofs.put_le.Tie as tie

@@ -1,5 +1,5 @@
 -- `text::put_pair` meets its contract. Assumes nothing.
-use Rattle.form.proofs.Puts.{put-then}
+use Rattle.laws.proofs.Puts.{put-then}
 use Rattle.text.proofs.Words.{hex-pair}
 use borrow.Author.Needs.{needs}
 use Rattle.text.proofs.put_pair.Statement.{statement}

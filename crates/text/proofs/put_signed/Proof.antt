@@ -1,5 +1,5 @@
 -- `text::put_signed` meets its contract. Assumes nothing.
-use Rattle.form.proofs.Puts.{put-then}
+use Rattle.laws.proofs.Puts.{put-then}
 use Rattle.text.proofs.Sign.{signed-minus, signed-plain}
 use borrow.Author.Needs.{needs}
 use Rattle.text.proofs.put_signed.Statement.{statement}

@@ -8,7 +8,7 @@ use mir.Val.{toZ}
 use Rattle.form.specs.Values as F
 use native.Mathlib.Omega.{arith}
 use Rattle.form.specs.Table.{table, entries, find, orPlain, after}
-use Rattle.form.proofs.Lookups.{unquoted-at, lookup1-at, lookup2-at, lookup3-at, lookup4-at, compact-at, negated-in, plain-below, plain-above, range-from}
+use Rattle.laws.proofs.Lookups.{unquoted-at, lookup1-at, lookup2-at, lookup3-at, lookup4-at, compact-at, negated-in, plain-below, plain-above, range-from}
 use Rattle.token.specs.Tokens.{tokenOf}
 use Rattle.token.specs.declared.Token.the-variants as T
 use Rattle.token.proofs.Payloads.{by-entry, number-at, through-at, text-at, colour-at, compact-from, nothing-at, empty-at, compact-is}

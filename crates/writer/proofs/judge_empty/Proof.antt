@@ -5,7 +5,7 @@ use mathlib.Core.Option.{none, some}
 use denote.Ref.{now}
 use Rattle.form.specs.Refusals.{BadPlace}
 use Rattle.form.specs.Writing.{outcome, unless}
-use Rattle.form.proofs.LittleEndian.{length-bytes}
+use Rattle.laws.proofs.LittleEndian.{length-bytes}
 use Rattle.token.specs.Texts.{placeOf, placeAnswer}
 use Rattle.writer.specs.Layouts.{spelledBy, misplacedBy, reasonBy, writeBy}
 use Rattle.writer.proofs.judge_empty.Statement.{statement}

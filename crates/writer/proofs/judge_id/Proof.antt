@@ -5,7 +5,7 @@ use mathlib.Core.Bool.{not, true, false}
 use borrow.Author.Tests.{not-true, not-false}
 use Rattle.form.specs.Table.{reserved}
 use Rattle.form.specs.Writing.{outcome, unless}
-use Rattle.form.proofs.LittleEndian.{length-bytes}
+use Rattle.laws.proofs.LittleEndian.{length-bytes}
 use Rattle.writer.specs.Layouts.{spelledBy, misplacedBy, reasonBy, writeBy}
 use Rattle.writer.proofs.judge_id.Statement.{statement}
 use Rattle.writer.proofs.judge_id.Tie as tie

@@ -6,7 +6,7 @@ use denote.Ref.{now}
 use native.Mathlib.Omega.{arith}
 use Rattle.form.specs.Writing.{leaves}
 use Rattle.writer.specs.Layouts.{writeBy}
-use Rattle.form.proofs.Puts.{put-front}
+use Rattle.laws.proofs.Puts.{put-front}
 use Rattle.writer.proofs.Judging.{refused-leaves, written-fits}
 use Rattle.writer.proofs.write_layout.Statement.{statement}
 use Rattle.writer.proofs.write_layout.Tie as tie

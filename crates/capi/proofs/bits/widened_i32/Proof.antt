@@ -3,7 +3,7 @@ use mathlib.Core.Path.{ap, _∙_}
 use mir.Syntax.{w64}
 use mir.Val.{ofZ}
 use borrow.Author.Needs.{needs}
-use Rattle.form.proofs.Signs.{widens, widened}
+use Rattle.laws.proofs.Signs.{widens, widened}
 use Rattle.capi.proofs.bits.widened_i32.Statement.{statement}
 use Rattle.capi.proofs.bits.widened_i32.Tie as tie
 

@@ -2,10 +2,10 @@
 -- whole. Assumes nothing.
 use Prim.Native.Nat.{_-_, _≤_, zero-le}
 use native.Mathlib.Omega.{arith}
-use mathlib.Core.Path.{_≡_, refl, sym, _∙_}
+use mathlib.Core.Path.{_≡_, sym, _∙_}
 use lib.ListN.{length}
 use borrow.Author.Needs.{needs}
-use Rattle.form.proofs.Walking.{from}
+use Rattle.laws.proofs.Walking.{from}
 use Rattle.payload.proofs.LetElse.{gotOf}
 use Rattle.token.proofs.LetElse.{token-else}
 use Rattle.token.specs.Tokens.{tokenAnswer}

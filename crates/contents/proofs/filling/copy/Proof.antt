@@ -1,8 +1,8 @@
 -- `contents::filling::copy` meets its contract. The invariant: the numbers that are left, put into the list as it is, give what the contract
 -- says. Assumes nothing.
-use Prim.Native.Nat.{_-_, _≤_}
+use Prim.Native.Nat.{_-_}
 use native.Mathlib.Omega.{arith}
-use mathlib.Core.Path.{_≡_, refl, ap, _∙_}
+use mathlib.Core.Path.{_≡_, refl, _∙_}
 use lib.ListN.{length, take, drop, length-take, length-set}
 use lib.Seq.{sets}
 use Rattle.contents.proofs.Numbering.{copy-step, copy-done, front}

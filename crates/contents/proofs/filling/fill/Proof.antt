@@ -1,7 +1,7 @@
 -- `contents::filling::fill` meets its contract. Assumes nothing.
 use borrow.Author.Needs.{needs}
 use native.Mathlib.Omega.{arith}
-use mathlib.Core.Path.{refl, ap, _∙_}
+use mathlib.Core.Path.{ap, _∙_}
 use Rattle.contents.specs.Answers.{filledOutcome}
 use Rattle.contents.proofs.Numbering.{too-long, uncollected, no-room, listed, kept, again}
 use Rattle.contents.proofs.filling.fill.Statement.{statement}

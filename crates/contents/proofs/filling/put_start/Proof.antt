@@ -1,7 +1,7 @@
 -- `contents::filling::put_start` meets its contract. Assumes nothing.
 use borrow.Author.Needs.{needs}
 use native.Mathlib.Omega.{arith}
-use mathlib.Core.Path.{ap, _∙_}
+use mathlib.Core.Path.{_∙_}
 use Rattle.contents.proofs.filling.put_start.Statement.{statement}
 use Rattle.contents.proofs.filling.put_start.Tie as tie
 

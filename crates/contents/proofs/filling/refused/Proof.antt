@@ -1,7 +1,6 @@
 -- `contents::filling::refused` meets its contract. Assumes nothing.
 use borrow.Author.Needs.{needs}
 use Rattle.form.specs.Refusals.{refusalAt}
-use Rattle.payload.specs.Answers.{faultOf}
 use Rattle.contents.proofs.filling.refused.Statement.{statement}
 use Rattle.contents.proofs.filling.refused.Tie as tie
 

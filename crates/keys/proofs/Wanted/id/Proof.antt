@@ -1,6 +1,5 @@
 -- `keys::Wanted::id` meets its contract. Assumes nothing.
 use borrow.Author.Needs.{needs}
-use mathlib.Core.Path.{_∙_}
 use Rattle.form.specs.Values.{kind}
 use Rattle.form.specs.Spelling.{tag}
 use Rattle.form.specs.Finding.{isPlain}

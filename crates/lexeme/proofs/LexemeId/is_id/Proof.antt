@@ -1,7 +1,7 @@
 -- `lexeme::LexemeId::is_id` meets its contract. Assumes nothing.
 use mathlib.Core.Path.{_≡_, refl, sym, ap, _∙_}
 use mathlib.Core.List.{[], _∷_}
-use Rattle.form.proofs.Lookups.{arm}
+use Rattle.laws.proofs.Lookups.{arm}
 use Rattle.lexeme.proofs.PlainKinds.{isId, id-plain}
 use borrow.Author.Needs.{needs}
 use Rattle.lexeme.specs.Kinds.{kindNumber}

@@ -1,7 +1,7 @@
 -- `lexer::Lexer::next_id` meets its contract. Assumes nothing.
 use borrow.Author.Needs.{needs}
 use native.Mathlib.Omega.{arith}
-use Rattle.form.proofs.Inside.{num-inside}
+use Rattle.laws.proofs.Inside.{num-inside}
 use Rattle.lexer.specs.Calls.{idCall}
 use Rattle.lexer.proofs.Endings.{told, next-got, next-end, next-cut}
 use Rattle.lexer.proofs.Lexer.next_id.Statement.{statement}

@@ -4,7 +4,7 @@ use native.Mathlib.Omega.{arith}
 use mathlib.Core.Path.{refl}
 use Rattle.form.specs.Readers.{at}
 use Rattle.form.specs.Reading.{num}
-use Rattle.form.proofs.Inside.{inside-mapped, num-inside}
+use Rattle.laws.proofs.Inside.{inside-mapped, num-inside}
 use Rattle.payload.specs.Answers.{boolAnswer}
 use Rattle.payload.proofs.LetElse.{gotOf, lackOf}
 use Rattle.lexer.proofs.Endings.{got, cut}

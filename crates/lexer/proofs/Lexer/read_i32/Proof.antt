@@ -6,7 +6,7 @@ use mir.Syntax.{w32}
 use mir.Val.{toZ, ofZ}
 use Rattle.form.specs.Readers.{at}
 use Rattle.form.specs.Reading.{num}
-use Rattle.form.proofs.Inside.{inside-mapped, num-inside}
+use Rattle.laws.proofs.Inside.{inside-mapped, num-inside}
 use Rattle.payload.specs.Answers.{i32Answer}
 use Rattle.payload.proofs.LetElse.{gotOf, lackOf}
 use Rattle.lexer.proofs.Endings.{got, cut}

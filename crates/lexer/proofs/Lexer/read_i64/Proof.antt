@@ -6,7 +6,7 @@ use mir.Syntax.{w64}
 use mir.Val.{toZ, ofZ}
 use Rattle.form.specs.Readers.{at}
 use Rattle.form.specs.Reading.{num}
-use Rattle.form.proofs.Inside.{inside-mapped, num-inside}
+use Rattle.laws.proofs.Inside.{inside-mapped, num-inside}
 use Rattle.payload.specs.Answers.{i64Answer}
 use Rattle.payload.proofs.LetElse.{gotOf, lackOf}
 use Rattle.lexer.proofs.Endings.{got, cut}

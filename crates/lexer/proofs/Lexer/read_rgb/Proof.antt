@@ -1,7 +1,6 @@
 -- `lexer::Lexer::read_rgb` meets its contract. Assumes nothing.
 use borrow.Author.Needs.{needs}
-use mathlib.Core.Path.{refl}
-use Rattle.form.proofs.Inside.{rgb-inside}
+use Rattle.laws.proofs.Inside.{rgb-inside}
 use Rattle.payload.specs.Answers.{rgbAnswer}
 use Rattle.payload.proofs.LetElse.{gotOf, colour-else}
 use Rattle.lexer.proofs.Endings.{got, cut}

@@ -3,7 +3,7 @@ use borrow.Author.Needs.{needs}
 use mathlib.Core.Path.{refl}
 use Rattle.form.specs.Readers.{at}
 use Rattle.form.specs.Reading.{string}
-use Rattle.form.proofs.Inside.{inside-placed, string-inside}
+use Rattle.laws.proofs.Inside.{inside-placed, string-inside}
 use Rattle.payload.specs.Answers.{textAnswer}
 use Rattle.payload.proofs.LetElse.{gotOf, lackOf}
 use Rattle.lexer.proofs.Endings.{got, cut}

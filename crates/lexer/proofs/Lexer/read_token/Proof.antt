@@ -1,6 +1,5 @@
 -- `lexer::Lexer::read_token` meets its contract. Assumes nothing.
 use borrow.Author.Needs.{needs}
-use mathlib.Core.Path.{refl}
 use Rattle.token.specs.Tokens.{tokenAnswer}
 use Rattle.payload.proofs.LetElse.{gotOf}
 use Rattle.token.proofs.LetElse.{token-else}

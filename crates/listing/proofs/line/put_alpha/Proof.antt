@@ -2,7 +2,7 @@
 use native.Mathlib.Omega.{arith}
 use Rattle.form.specs.Ascii.{spaced}
 use Rattle.form.specs.Listing.{alphaWords}
-use Rattle.form.proofs.Puts.{put-none}
+use Rattle.laws.proofs.Puts.{put-none}
 use borrow.Author.Needs.{needs}
 use Rattle.listing.proofs.line.put_alpha.Statement.{statement}
 use Rattle.listing.proofs.line.put_alpha.Tie as tie

@@ -5,7 +5,7 @@ use native.Mathlib.Omega.{arith}
 use lib.ListN.{length}
 use lib.Seq.{length-take-le}
 use Rattle.form.specs.Ascii.{line}
-use Rattle.form.proofs.Puts.{put-then}
+use Rattle.laws.proofs.Puts.{put-then}
 use Rattle.text.proofs.Words.{put-words}
 use Rattle.listing.specs.Shapes.{lineOf}
 use Rattle.listing.proofs.Lines.{short}

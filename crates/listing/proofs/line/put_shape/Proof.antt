@@ -4,7 +4,7 @@ use native.Mathlib.Omega.{arith}
 use mir.Syntax.{w64}
 use mir.Val.{toZ, ofZ}
 use Rattle.form.specs.Ascii.{spaced}
-use Rattle.form.proofs.Puts.{put-none}
+use Rattle.laws.proofs.Puts.{put-none}
 use Rattle.text.proofs.Words.{put-spaced}
 use Rattle.listing.specs.Shapes.{shapeWords}
 use borrow.Author.Needs.{needs}

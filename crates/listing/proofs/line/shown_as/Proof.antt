@@ -2,7 +2,7 @@
 use mathlib.Core.Path.{_≡_}
 use mir.Syntax.{w32, w64}
 use mir.Val.{SFits, toZ, ofZ}
-use Rattle.form.proofs.Signs.{widens, widened}
+use Rattle.laws.proofs.Signs.{widens, widened}
 use borrow.Author.Needs.{needs}
 use Rattle.listing.proofs.line.shown_as.Statement.{statement}
 use Rattle.listing.proofs.line.shown_as.Tie as tie

@@ -4,8 +4,7 @@ use borrow.Author.Needs.{needs}
 use Prim.Native.Nat.{_-_}
 use native.Mathlib.Omega.{arith}
 use lib.ListN.{length}
-use mathlib.Core.Path.{refl}
-use Rattle.form.proofs.LittleEndian.{bytes-all}
+use Rattle.laws.proofs.LittleEndian.{bytes-all}
 use Rattle.payload.proofs.LetElse.{gotOf}
 use Rattle.token.proofs.LetElse.{token-else}
 use Rattle.token.specs.Tokens.{tokenAnswer}

@@ -5,8 +5,8 @@ use native.Mathlib.Omega.{arith}
 use mathlib.Core.Path.{_∙_}
 use mathlib.Core.Bool.{true, false}
 use mathlib.Core.Logic.{inr}
-use Rattle.form.proofs.Lookups.{lookup1-at, lookup2-at, lookup3-at, lookup4-at, compact-in, negated-in}
-use Rattle.form.proofs.Standing.{of-one, Kept, kept3, threes-kept}
+use Rattle.laws.proofs.Lookups.{lookup1-at, lookup2-at, lookup3-at, lookup4-at, compact-in, negated-in}
+use Rattle.laws.proofs.Standing.{of-one, Kept, kept3, threes-kept}
 use Rattle.token.proofs.Payloads.{compact-is}
 use Rattle.payload.specs.Compact.{signedBy}
 use Rattle.normaliser.proofs.Spelled.{number-arm, lookup-arm, float-arm}

@@ -2,7 +2,7 @@
 use borrow.Author.Needs.{needs}
 use native.Mathlib.Omega.{arith}
 use lib.ListN.{length, drop, length-drop}
-use Rattle.form.proofs.Places.{num-there, num-lt}
+use Rattle.laws.proofs.Places.{num-there, num-lt}
 use Rattle.split.proofs.Enough.{there}
 use Rattle.normaliser.proofs.spelling.fixed.Statement.{statement}
 use Rattle.normaliser.proofs.spelling.fixed.Tie as tie

@@ -6,7 +6,7 @@ use Prim.Native.Nat.{ℕ}
 use Rattle.form.specs.Values.{kind}
 use Rattle.form.specs.Table.{table, entries, find, orPlain, after}
 use Rattle.form.specs.Spelling.{tag, body, reason, writable, wide}
-use Rattle.form.proofs.Standing.{KeptNumber, KeptText, KeptColour, of-one, Kept, kept4, fours-kept, keptF32, floats-kept, kept8, eights-kept, keptTruths, truths-kept, keptTexts, texts-kept, keptColours, colours-kept}
+use Rattle.laws.proofs.Standing.{KeptNumber, KeptText, KeptColour, of-one, Kept, kept4, fours-kept, keptF32, floats-kept, kept8, eights-kept, keptTruths, truths-kept, keptTexts, texts-kept, keptColours, colours-kept}
 use Rattle.payload.specs.Answers.{idAnswer}
 use Rattle.payload.proofs.LetElse.{gotOf}
 use Rattle.normaliser.proofs.Spelled.{number-arm, text-arm, colour-arm, alone-arm, alone-below, alone-above}

@@ -3,7 +3,7 @@ use mathlib.Core.Path.{sym, _∙_}
 use borrow.Author.Needs.{needs}
 use borrow.Author.Tests.{not-true, not-false}
 use Rattle.form.specs.Reading.{headed}
-use Rattle.form.proofs.Lookups.{open-is, channel-is}
+use Rattle.laws.proofs.Lookups.{open-is, channel-is}
 use Rattle.payload.proofs.colour.begins.Statement.{statement}
 use Rattle.payload.proofs.colour.begins.Tie as tie
 

@@ -1,6 +1,6 @@
 -- `payload::colour::closing` meets its contract. Assumes nothing.
-use Rattle.form.proofs.Lookups.{close-is, channel-is}
-use Rattle.form.proofs.Places.{ending-then}
+use Rattle.laws.proofs.Lookups.{close-is, channel-is}
+use Rattle.laws.proofs.Places.{ending-then}
 use borrow.Author.Tests.{eq-eqb, ne-eqb}
 use borrow.Author.Needs.{needs}
 use Rattle.payload.proofs.colour.closing.Statement.{statement}

@@ -2,7 +2,7 @@
 use mathlib.Core.Path.{refl}
 use borrow.Author.Needs.{needs}
 use Rattle.form.specs.Readers.{andThen}
-use Rattle.form.proofs.Places.{channel-then}
+use Rattle.laws.proofs.Places.{channel-then}
 use Rattle.payload.specs.Answers.{u32Answer, idAnswer}
 use Rattle.payload.proofs.LetElse.{gotOf, lackOf}
 use Rattle.payload.proofs.colour.read_channel.Statement.{statement}

@@ -2,7 +2,7 @@
 use mathlib.Core.Path.{refl, sym}
 use borrow.Author.Needs.{needs}
 use Rattle.form.specs.Readers.{andThen}
-use Rattle.form.proofs.Places.{channels-then}
+use Rattle.laws.proofs.Places.{channels-then}
 use Rattle.payload.specs.Answers.{idAnswer}
 use Rattle.payload.specs.Colour.{channelAnswer}
 use Rattle.payload.proofs.LetElse.{gotOf, lackOf}

@@ -2,8 +2,8 @@
 use mathlib.Core.Path.{refl, sym, _∙_}
 use borrow.Author.Needs.{needs}
 use Rattle.form.specs.Readers.{andThen}
-use Rattle.form.proofs.Lookups.{close-is}
-use Rattle.form.proofs.Places.{alpha-then}
+use Rattle.laws.proofs.Lookups.{close-is}
+use Rattle.laws.proofs.Places.{alpha-then}
 use Rattle.payload.specs.Answers.{u32Answer, idAnswer}
 use Rattle.payload.proofs.LetElse.{gotOf, lackOf}
 use Rattle.payload.proofs.colour.read_last.Statement.{statement}

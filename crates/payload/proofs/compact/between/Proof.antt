@@ -1,12 +1,12 @@
 -- `payload::compact::between` meets its contract: x is the number of the bytes from i on, and is below 256 to their count. Assumes nothing.
-use Prim.Native.Nat.{suc, _+_, _-_, _^_, _≤_, _<_}
+use Prim.Native.Nat.{suc, _-_, _^_, _≤_, _<_}
 use native.Mathlib.Nat.{pow-succ'}
 use native.Mathlib.Omega.{arith}
 use mathlib.Core.Path.{_≡_, sym, _∙_}
 use borrow.Author.Needs.{needs}
 use lib.Dec.{lit<}
 use lib.ListN.{length-drop}
-use Rattle.form.proofs.LittleEndian.{within}
+use Rattle.laws.proofs.LittleEndian.{within}
 use Rattle.payload.proofs.HighestFirst.{upper, upper-end, upper-more, upper-all}
 use Rattle.payload.proofs.compact.between.Statement.{statement}
 use Rattle.payload.proofs.compact.between.Tie as tie

@@ -3,7 +3,7 @@ use Prim.Native.Nat.{_+_, _-_}
 use mathlib.Core.Path.{_≡_, refl, sym}
 use native.Mathlib.Omega.{arith}
 use borrow.Author.Needs.{needs}
-use Rattle.form.proofs.Places.{num-there, took}
+use Rattle.laws.proofs.Places.{num-there, took}
 use Rattle.payload.specs.Answers.{textAnswer, textOf}
 use Rattle.payload.proofs.LetElse.{gotOf, lackOf}
 use Rattle.payload.proofs.Spells.{spells, spells-not}

@@ -1,9 +1,9 @@
 -- `payload::numbers::read_width` meets its contract. Assumes nothing.
-use mathlib.Core.Path.{refl, sym, _∙_}
+use mathlib.Core.Path.{refl, sym}
 use native.Mathlib.Omega.{arith}
-use lib.ListN.{length, drop, length-drop}
+use lib.ListN.{length-drop}
 use borrow.Author.Needs.{needs}
-use Rattle.form.proofs.Places.{num-there, took}
+use Rattle.laws.proofs.Places.{num-there, took}
 use Rattle.payload.specs.Answers.{textAnswer, textOf}
 use Rattle.payload.proofs.LetElse.{gotOf, lackOf}
 use Rattle.payload.proofs.Spells.{spells, spells-not}

@@ -2,8 +2,8 @@
 use mathlib.Core.Path.{refl, sym}
 use native.Mathlib.Omega.{arith}
 use borrow.Author.Needs.{needs}
-use Rattle.form.proofs.LittleEndian.{within}
-use Rattle.form.proofs.Places.{num-lt}
+use Rattle.laws.proofs.LittleEndian.{within}
+use Rattle.laws.proofs.Places.{num-lt}
 use Rattle.payload.specs.Answers.{u64Answer}
 use Rattle.payload.proofs.LetElse.{gotOf, lackOf}
 use Rattle.payload.proofs.numbers.read_width32.Statement.{statement}

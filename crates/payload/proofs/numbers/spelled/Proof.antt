@@ -6,7 +6,7 @@ use mathlib.Core.Path.{_≡_, sym, _∙_}
 use borrow.Author.Needs.{needs}
 use lib.Dec.{lit<}
 use lib.ListN.{length-drop}
-use Rattle.form.proofs.LittleEndian.{within}
+use Rattle.laws.proofs.LittleEndian.{within}
 use Rattle.payload.proofs.HighestFirst.{upper, upper-end, upper-more, upper-all}
 use Rattle.payload.proofs.numbers.spelled.Statement.{statement}
 use Rattle.payload.proofs.numbers.spelled.Tie as tie

@@ -1,7 +1,7 @@
 -- `skip::walk::over` meets its contract. Assumes nothing.
 use native.Mathlib.Omega.{arith}
 use mathlib.Core.Path.{refl, sym, _∙_}
-use Rattle.form.proofs.SkipSteps.{passing-on}
+use Rattle.laws.proofs.SkipSteps.{passing-on}
 use Rattle.payload.specs.Answers.{textAnswer}
 use Rattle.payload.proofs.LetElse.{gotOf, lackOf}
 use Rattle.skip.proofs.Passing.{got, got-not}

@@ -6,7 +6,7 @@ use mathlib.Core.List.{List, [], _∷_}
 use lib.Dec.{leb}
 use borrow.Author.Tests.{lt-leb}
 use Rattle.form.specs.Table.{table, entries, find, orPlain, after}
-use Rattle.form.proofs.Lookups.{arm}
+use Rattle.laws.proofs.Lookups.{arm}
 use Rattle.payload.specs.Answers.{textOf}
 use Rattle.skip.specs.Walks.{stepsOver}
 use Rattle.skip.proofs.Passing.{passed, bare}

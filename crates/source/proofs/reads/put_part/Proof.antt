@@ -5,7 +5,7 @@ use Prim.Native.Nat.{_+_}
 use native.Mathlib.Omega.{arith}
 use lib.ListN.{length, take, drop, length-set}
 use lib.Seq.{sets}
-use Rattle.form.proofs.Runs.{copy-step, copy-done}
+use Rattle.laws.proofs.Runs.{copy-step, copy-done}
 use Rattle.source.proofs.reads.put_part.Statement.{statement}
 use Rattle.source.proofs.reads.put_part.Tie as tie
 

@@ -5,7 +5,7 @@ use Prim.Native.Nat.{_+_}
 use native.Mathlib.Omega.{arith}
 use lib.ListN.{length, take, drop, length-set}
 use lib.Seq.{sets}
-use Rattle.form.proofs.Runs.{copy-done}
+use Rattle.laws.proofs.Runs.{copy-done}
 use Rattle.source.proofs.Stores.{slide-step}
 use Rattle.source.proofs.reads.slide.Statement.{statement}
 use Rattle.source.proofs.reads.slide.Tie as tie

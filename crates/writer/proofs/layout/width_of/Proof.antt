@@ -2,7 +2,7 @@
 use borrow.Author.Needs.{needs}
 use native.Mathlib.Omega.{arith}
 use lib.Count.{leading-le}
-use Rattle.form.proofs.Widths.{leading-width}
+use Rattle.laws.proofs.Widths.{leading-width}
 use Rattle.writer.proofs.layout.width_of.Statement.{statement}
 use Rattle.writer.proofs.layout.width_of.Tie as tie
 

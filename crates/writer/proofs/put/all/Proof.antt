@@ -6,7 +6,7 @@ use native.Mathlib.Nat.{add-zero}
 use native.Mathlib.Omega.{arith}
 use lib.ListN.{length, take, drop, length-set}
 use lib.Seq.{sets, take-all}
-use Rattle.form.proofs.Runs.{copy-step, copy-done}
+use Rattle.laws.proofs.Runs.{copy-step, copy-done}
 use Rattle.writer.proofs.put.all.Statement.{statement}
 use Rattle.writer.proofs.put.all.Tie as tie
 

@@ -1,7 +1,7 @@
 -- `writer::put::channel` meets its contract. Assumes nothing.
 use borrow.Author.Needs.{needs}
 use Rattle.form.specs.Spelling.{spelledChannel}
-use Rattle.form.proofs.Lookups.{channel-is}
+use Rattle.laws.proofs.Lookups.{channel-is}
 use Rattle.writer.proofs.put.channel.Statement.{statement}
 use Rattle.writer.proofs.put.channel.Tie as tie
 

@@ -1,8 +1,8 @@
 -- `writer::put::channels` meets its contract. Assumes nothing.
 use borrow.Author.Needs.{needs}
 use native.Mathlib.Omega.{arith}
-use Rattle.form.proofs.ReadsBack.{channel-length}
-use Rattle.form.proofs.Puts.{put-then}
+use Rattle.laws.proofs.ReadsBack.{channel-length}
+use Rattle.laws.proofs.Puts.{put-then}
 use Rattle.writer.proofs.Sizes.{end-size, channels-size}
 use Rattle.writer.proofs.put.channels.Statement.{statement}
 use Rattle.writer.proofs.put.channels.Tie as tie

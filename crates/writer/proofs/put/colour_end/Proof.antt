@@ -2,9 +2,9 @@
 use borrow.Author.Needs.{needs}
 use native.Mathlib.Omega.{arith}
 use Rattle.form.specs.Spelling.{spelledAlpha}
-use Rattle.form.proofs.Lookups.{close-is}
-use Rattle.form.proofs.ReadsBack.{channel-length}
-use Rattle.form.proofs.Puts.{put-then}
+use Rattle.laws.proofs.Lookups.{close-is}
+use Rattle.laws.proofs.ReadsBack.{channel-length}
+use Rattle.laws.proofs.Puts.{put-then}
 use Rattle.writer.proofs.Sizes.{end-size}
 use Rattle.writer.proofs.put.colour_end.Statement.{statement}
 use Rattle.writer.proofs.put.colour_end.Tie as tie

@@ -1,9 +1,9 @@
 -- `writer::put::id_colour` meets its contract. Assumes nothing.
 use borrow.Author.Needs.{needs}
 use native.Mathlib.Omega.{arith}
-use Rattle.form.proofs.LittleEndian.{length-bytes}
-use Rattle.form.proofs.Lookups.{open-is}
-use Rattle.form.proofs.Puts.{put-then}
+use Rattle.laws.proofs.LittleEndian.{length-bytes}
+use Rattle.laws.proofs.Lookups.{open-is}
+use Rattle.laws.proofs.Puts.{put-then}
 use Rattle.writer.proofs.Sizes.{channels-size, colour-size}
 use Rattle.writer.proofs.put.id_colour.Statement.{statement}
 use Rattle.writer.proofs.put.id_colour.Tie as tie

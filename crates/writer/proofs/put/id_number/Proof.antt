@@ -1,8 +1,8 @@
 -- `writer::put::id_number` meets its contract. Assumes nothing.
 use borrow.Author.Needs.{needs}
 use native.Mathlib.Omega.{arith}
-use Rattle.form.proofs.LittleEndian.{length-bytes}
-use Rattle.form.proofs.Puts.{put-then}
+use Rattle.laws.proofs.LittleEndian.{length-bytes}
+use Rattle.laws.proofs.Puts.{put-then}
 use Rattle.writer.proofs.put.id_number.Statement.{statement}
 use Rattle.writer.proofs.put.id_number.Tie as tie
 

@@ -3,8 +3,8 @@ use borrow.Author.Needs.{needs}
 use native.Mathlib.Omega.{arith}
 use denote.Ref.{now}
 use lib.ListN.{length}
-use Rattle.form.proofs.LittleEndian.{length-bytes}
-use Rattle.form.proofs.Puts.{put-then}
+use Rattle.laws.proofs.LittleEndian.{length-bytes}
+use Rattle.laws.proofs.Puts.{put-then}
 use Rattle.writer.proofs.put.id_text.Statement.{statement}
 use Rattle.writer.proofs.put.id_text.Tie as tie
 

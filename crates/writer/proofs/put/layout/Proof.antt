@@ -3,7 +3,7 @@ use borrow.Author.Needs.{needs}
 use mathlib.Core.Path.{sym}
 use native.Mathlib.Omega.{arith}
 use denote.Ref.{now}
-use Rattle.form.proofs.LittleEndian.{length-bytes}
+use Rattle.laws.proofs.LittleEndian.{length-bytes}
 use Rattle.payload.specs.Texts.{partOf}
 use Rattle.writer.specs.Layouts.{spelledBy}
 use Rattle.writer.proofs.Sizes.{number-size, text-size}

@@ -6,7 +6,7 @@ use native.Mathlib.Omega.{arith}
 use lib.ListN.{length, length-set}
 use lib.Seq.{sets}
 use Rattle.form.specs.Numbers.{leBytes}
-use Rattle.form.proofs.LittleEndian.{length-bytes}
+use Rattle.laws.proofs.LittleEndian.{length-bytes}
 use Rattle.writer.proofs.Stores.{number-step, number-done}
 use Rattle.writer.proofs.put.number.Statement.{statement}
 use Rattle.writer.proofs.put.number.Tie as tie

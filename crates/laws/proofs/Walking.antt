@@ -1,0 +1,50 @@
+-- Reading all, a token at a time: what a loop's invariant cites. Assumes nothing.
+use Prim.Native.Nat.{ℕ, zero, suc, _+_, _≤_, _<_, zero-le}
+use native.Mathlib.Omega.{arith}
+use mathlib.Core.Path.{_≡_, refl, sym, ap, _∙_}
+use mathlib.Core.List.{List, [], _∷_}
+use lib.ListN.{length, drop, length-drop, drop-of-length-le, getD}
+use lib.Seq.{drop-drop, drop-cons}
+use Rattle.form.specs.Values.{Value}
+use Rattle.form.specs.Readers.{Answer, found, refused}
+use Rattle.form.specs.Reading.{token}
+use Rattle.form.specs.Saves.{Walk, done, then, step, walkF, walk}
+use Rattle.laws.proofs.Found.{All, Within, token-in}
+
+step-same : (s : List ℕ) (p : ℕ) (a : Answer Value) (f g : ℕ → Walk) → All (λ _ n. Within s n) a → ((n : ℕ) → Within s n → f n ≡ g n) → step p a f ≡ step p a g
+unfolding step
+step-same s p (found v n) f g h e = ap (then p n v) (e n h)
+step-same s p (refused why) f g h e = refl
+
+-- any count that is large enough gives the same
+walk-same : (k m p : ℕ) (s : List ℕ) → length s ≤ k → length s ≤ m → walkF k p s ≡ walkF m p s
+unfolding walkF
+walk-same zero zero p s h l = refl
+walk-same zero (suc m) p [] h l = refl
+walk-same zero (suc m) p (b ∷ s) h l = absurd (omega arith)
+walk-same (suc k) zero p [] h l = refl
+walk-same (suc k) zero p (b ∷ s) h l = absurd (omega arith)
+walk-same (suc k) (suc m) p [] h l = refl
+walk-same (suc k) (suc m) p (b ∷ s) h l =
+    step-same (b ∷ s) p (token (b ∷ s)) _ _ (token-in (b ∷ s))
+    (λ n q. walk-same k m (p + n) (drop n (b ∷ s)) (rw length-drop (omega (arith, q .some))) (rw length-drop (omega (arith, q .some))))
+
+-- what is read from place p on
+unfoldable pub from : List ℕ → ℕ → Walk
+from s p = walkF (length s) p (drop p s)
+
+pub from-start : (s : List ℕ) → from s 0 ≡ walk s
+unfolding from walk
+from-start s = refl
+
+pub from-end : (s : List ℕ) (p : ℕ) → length s ≤ p → from s p ≡ done
+unfolding from walkF
+from-end s p h = rw (drop-of-length-le s h) (walk-same (length s) zero p [] zero-le zero-le)
+
+pub from-step : (s : List ℕ) (p : ℕ) → p < length s → from s p ≡ step p (token (drop p s)) (λ n. from s (p + n))
+unfolding from walkF
+from-step s p h =
+    rw (drop-cons s p 0)
+    (walk-same (length s) (suc (length s)) p (getD s p 0 ∷ drop (suc p) s) (rw length-drop (omega arith)) (rw length-drop (omega arith))
+    ∙ step-same (getD s p 0 ∷ drop (suc p) s) p (token (getD s p 0 ∷ drop (suc p) s)) _ _ (token-in (getD s p 0 ∷ drop (suc p) s))
+    (λ n q. ap (walkF (length s) (p + n)) (ap (drop n) (sym (drop-cons s p 0 h)) ∙ drop-drop n p s)))

@@ -1,0 +1,1 @@
+// What follows from the definition of the binary form. It has no code.
