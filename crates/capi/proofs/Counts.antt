@@ -7,7 +7,8 @@ use lib.ListN.{length}
 use Rattle.form.specs.Refusals.{Fault, tooShort, badColour, refusalAt, refusalValues, refusalValue}
 use Rattle.form.specs.Values.{Value}
 use Rattle.form.specs.Readers.{refused}
-use Rattle.laws.proofs.Walking.{from, from-start, from-end}
+use Rattle.form.specs.Saves.{from}
+use Rattle.laws.proofs.Walking.{from-start, from-end}
 use Rattle.token.specs.Tokens.{tokenAt}
 use Rattle.token.proofs.Walks.{Read, token-refused}
 use Rattle.capi.specs.Replies as R

@@ -18,10 +18,10 @@ use Rattle.form.specs.Refusals as R
 use Rattle.form.specs.Refusals.{Refusal, refusalAt}
 use Rattle.form.specs.Readers.{found, at}
 use Rattle.form.specs.Reading.{token}
-use Rattle.form.specs.Saves.{walk, LIMIT}
+use Rattle.form.specs.Saves.{walk, LIMIT, from}
 use Rattle.form.specs.Writing.{Outcome, wrote, declined, over}
 use Rattle.form.specs.Keys.{atTop, keysOf}
-use Rattle.form.specs.Finding.{cutBy, walkAt}
+use Rattle.form.specs.Finding.{cutBy}
 use Rattle.form.specs.Contents as F
 use Rattle.form.specs.Contents.{entriesTo, contents, flat, fillingOutcome, numbersLeft, roomFor, unlessCut}
 use Rattle.laws.proofs.Never.{never}
@@ -34,7 +34,7 @@ use Rattle.token.proofs.Walks.{Read, read}
 use Rattle.keys.specs.declared.Wanted.the-variants.{Any}
 use Rattle.keys.specs.declared.Next.{Next}
 use Rattle.keys.specs.declared.Next.the-variants.{Key, End, Refused}
-use Rattle.keys.specs.Seeking.{wants, walkFrom, wantedFrom, NextKey}
+use Rattle.keys.specs.Seeking.{wants, wantedFrom, NextKey}
 use Rattle.contents.proofs.filling.Filled.{the-type}
 use Rattle.contents.specs.declared.filling.Filled.{Filled}
 use Rattle.contents.specs.declared.filling.Filled.the-variants.{Listed, Eof, InvalidRgb, ListFull, TooLong}
@@ -76,17 +76,17 @@ pub record Coming (s : List ℕ) (p n : ℕ) (d₀ d : List ℕ) : Type 0 where
   pub fewer : n ≤ p
   pub inside : p ≤ length s
   pub same : length d ≡ length d₀
-  pub count : n + length (keysOf (walkFrom s p)) ≡ length (keysOf (walk s))
-  pub ending : cutBy (walkFrom s p) ≡ cutBy (walk s)
-  pub numbers : sets d (place n) (toCome (length s) n (keysOf (walkFrom s p))) ≡ sets d₀ 0 (flat (contents s))
+  pub count : n + length (keysOf (from s p)) ≡ length (keysOf (walk s))
+  pub ending : cutBy (from s p) ≡ cutBy (walk s)
+  pub numbers : sets d (place n) (toCome (length s) n (keysOf (from s p))) ≡ sets d₀ 0 (flat (contents s))
 
-pub all-keys : (s : List ℕ) (p : ℕ) → wantedFrom (wants Any) s p ≡ keysOf (walkFrom s p)
+pub all-keys : (s : List ℕ) (p : ℕ) → wantedFrom (wants Any) s p ≡ keysOf (from s p)
 unfolding wants keysOf
-all-keys s p = every-key atTop (walkFrom s p)
+all-keys s p = every-key atTop (from s p)
 
 module _ (s d₀ : List ℕ) where
   pub at-first : Coming s 0 0 d₀ d₀
-  unfolding walkAt walk contents
+  unfolding from walk contents
   at-first = record { fewer = omega arith; inside = omega arith; same = refl; count = omega arith; ending = refl; numbers = refl }
 
   module _ (p n : ℕ) (d : List ℕ) (c : Coming s p n d₀ d) {r : Next} (h : NextKey (wants Any) s p r) where
@@ -103,7 +103,7 @@ module _ (s d₀ : List ℕ) where
         let v = k .is .0 in
         let f = k .is .1 in
         let x : Read s q v m = read s q (f .token) in
-        let l : keysOf (walkFrom s p) ≡ (q, v) ∷ keysOf (walkFrom s m) = sym (all-keys s p) ∙ f .keys ∙ ap (λ l. (q, v) ∷ l) (all-keys s m) in
+        let l : keysOf (from s p) ≡ (q, v) ∷ keysOf (from s m) = sym (all-keys s p) ∙ f .keys ∙ ap (λ l. (q, v) ∷ l) (all-keys s m) in
         record {
           after = f .onward;
           on = x .on;
@@ -114,7 +114,7 @@ module _ (s d₀ : List ℕ) where
             same = ap length g ∙ length-started n q d ∙ c .same;
             count = omega (arith, c .count, ap length l);
             ending = sym (f .ending) ∙ c .ending;
-            numbers = rw (g, add-one n, starts (length s) d n q v (keysOf (walkFrom s m)), ← l) (c .numbers);
+            numbers = rw (g, add-one n, starts (length s) d n q v (keysOf (from s m)), ← l) (c .numbers);
           };
         }
 
@@ -122,7 +122,7 @@ module _ (s d₀ : List ℕ) where
     unfolding contents unlessCut fillingOutcome
     to-end e {d′} g =
         let k : NextKey (wants Any) s p End = rw e at h in
-        let l : keysOf (walkFrom s p) ≡ [] = sym (all-keys s p) ∙ k .is .0 in
+        let l : keysOf (from s p) ≡ [] = sym (all-keys s p) ∙ k .is .0 in
         let z : length (keysOf (walk s)) ≡ n = omega (arith, c .count, ap length l) in
         record {
           answer = rw (← c .ending, k .is .1, length-entries (length s) (keysOf (walk s)), z);

@@ -13,20 +13,20 @@ use borrow.Author.Tests.{le-leb, lt-leb}
 use types.Run.{OneOf}
 use denote.Enum.Declared.{tagOf}
 use Rattle.form.specs.Refusals.{Refusal, ListFull, TooLong}
-use Rattle.form.specs.Saves.{walk, LIMIT}
+use Rattle.form.specs.Saves.{walk, LIMIT, from}
 use Rattle.form.specs.Writing.{Outcome, wrote, declined}
 use Rattle.form.specs.Keys.{those, keysOf}
-use Rattle.form.specs.Finding.{cutBy, walkAt}
+use Rattle.form.specs.Finding.{cutBy}
 use Rattle.form.specs.Contents as F
 use Rattle.form.specs.Contents.{contents, fillingOutcome, roomFor, unlessCut}
 use Rattle.laws.proofs.Never.{never}
-use Rattle.laws.proofs.Walking.{from, from-end}
+use Rattle.laws.proofs.Walking.{from-end}
 use Rattle.token.proofs.Walks.{Read, read}
 use Rattle.keys.proofs.Next as N
 use Rattle.keys.specs.declared.Wanted.the-variants.{Any}
 use Rattle.keys.specs.declared.Next.{Next}
 use Rattle.keys.specs.declared.Next.the-variants as X
-use Rattle.keys.specs.Seeking.{wants, walkFrom, wantedFrom, NextKey}
+use Rattle.keys.specs.Seeking.{wants, wantedFrom, NextKey}
 use Rattle.contents.specs.declared.filling.Filled.{Filled}
 use Rattle.contents.specs.declared.filling.Filled.the-variants as L
 use Rattle.contents.specs.declared.entries.Key.{Key}
@@ -84,12 +84,12 @@ module _ (s : List ℕ) (k : Key) {r : Next} (h : NextKey (wants Any) s (k .next
   pub to-key : {p m : ℕ} → r ≡ X.Key p m → Steps s k (record { start = k .end; end = p; next = m })
   to-key {p} {m} e =
       let n : NextKey (wants Any) s (k .next) (X.Key p m) = rw e at h in
-      let l : keysAfter s k ≡ (p, n .is .0) ∷ keysOf (walkFrom s m) =
+      let l : keysAfter s k ≡ (p, n .is .0) ∷ keysOf (from s m) =
       sym (all-keys s (k .next)) ∙ n .is .1 .keys ∙ ap (λ l. (p, n .is .0) ∷ l) (all-keys s m) in
       record { start = refl; end = rw l; rest = rw l }
 
   none-left : keysAfter s k ≡ [] → Steps s k (record { start = k .end; end = length s; next = length s })
-  unfolding walkAt from keysOf those
+  unfolding from keysOf those
   none-left l = record { start = refl; end = rw l; rest = ap keysOf (from-end s (length s) (le-refl (length s))) ∙ rw l }
 
   pub to-end : OneOf (1 ∷ 2 ∷ []) (tagOf N.the-type r) → Steps s k (record { start = k .end; end = length s; next = length s })

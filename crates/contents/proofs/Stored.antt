@@ -10,9 +10,8 @@ use lib.ListN.{length, set, take, drop, length-set, length-map, length-drop}
 use lib.Seq.{sets, take-all, drop-drop}
 use Rattle.form.specs.Values.{Value}
 use Rattle.form.specs.Refusals.{Refusal}
-use Rattle.form.specs.Saves.{walk, LIMIT}
+use Rattle.form.specs.Saves.{walk, LIMIT, from}
 use Rattle.form.specs.Writing.{wrote, declined}
-use Rattle.form.specs.Finding.{walkAt}
 use Rattle.form.specs.Contents as F
 use Rattle.form.specs.Contents.{span, firstOr, entriesTo, contents, Filling, filled, unfilled, fillingOutcome, entriesLeft, entriesIn, readFile}
 use Rattle.laws.proofs.Never.{never}
@@ -110,7 +109,7 @@ module _ (s : List ℕ) (n : ℕ) (d : List Entry) where
     pub rest : sets (map entryOf l) i (take (n - i) (entriesAfter s k)) ≡ sets (map entryOf d) 0 (take n (contents s))
 
   pub starts : (k : Key) → (0 < n → (length s ≤ LIMIT) × (n ≡ length (contents s))) → (length s ≤ LIMIT → Steps s outset k) → Turn 0 k d
-  unfolding contents walkAt walk
+  unfolding contents from walk
   starts k known up =
       let c : 0 < n → n ≡ length (keysAfter s outset) = λ h. known h .1 ∙ length-entries (length s) (keysAfter s outset) in
       let z : n - 0 ≡ n = omega arith in

@@ -6,7 +6,7 @@ use lib.ListN.{length, drop}
 use Rattle.form.specs.Values.{Value}
 use Rattle.form.specs.Keys.{keysOf}
 use Rattle.form.specs.Contents.{firstOr}
-use Rattle.keys.specs.Seeking.{walkFrom}
+use Rattle.form.specs.Saves.{from}
 use Rattle.contents.specs.declared.Entry.{Entry}
 use Rattle.contents.specs.declared.filling.Filled.{Filled}
 use Rattle.contents.specs.declared.filling.Filled.the-variants as L
@@ -36,7 +36,7 @@ outset = record { start = 0; end = 0; next = 0 }
 
 -- the keys that are still to come
 abbrev pub keysAfter : List ℕ → Key → List (ℕ × Value)
-keysAfter s k = keysOf (walkFrom s (k .next))
+keysAfter s k = keysOf (from s (k .next))
 
 -- r is the one after k
 pub record Steps (s : List ℕ) (k r : Key) : Type 0 where

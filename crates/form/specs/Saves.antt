@@ -28,6 +28,10 @@ walkF zero p s = done
 walkF (suc k) p [] = done
 walkF (suc k) p (b ∷ s) = step p (token (b ∷ s)) (λ n. walkF k (p + n) (drop n (b ∷ s)))
 
+-- what is read from place p on
+unfoldable pub from : List ℕ → ℕ → Walk
+from s p = walkF (length s) p (drop p s)
+
 unfoldable pub walk : List ℕ → Walk
 walk s = walkF (length s) 0 s
 

@@ -16,14 +16,14 @@ use Rattle.form.specs.Refusals.{Fault, refusalAt}
 use Rattle.form.specs.Readers.{Answer, found, refused, mapped, placed, at}
 use Rattle.form.specs.Reading.{next, num, string, rgb, payload, token}
 use Rattle.form.specs.Keys.{makesKey}
-use Rattle.form.specs.Finding.{isPlain, walkAt}
-use Rattle.form.specs.Saves.{then}
+use Rattle.form.specs.Finding.{isPlain}
+use Rattle.form.specs.Saves.{then, from}
 use Rattle.laws.proofs.Never.{never}
 use Rattle.laws.proofs.Lookups.{plain-after, compact-in, negated-in}
 use Rattle.laws.proofs.Elsewhere.{both, eachId, listed, MissedAll, elsewhere}
 use Rattle.laws.proofs.Places.{at-giving, at-nothing}
 use Rattle.laws.proofs.ById.{OneKind, after-kind}
-use Rattle.laws.proofs.Walking.{from, from-end}
+use Rattle.laws.proofs.Walking.{from-end}
 use Rattle.laws.proofs.Seeking.{keyHere, seeking, seeking-start, seeking-done, seeking-cut, ahead-id, ahead-none, past-open, past-close, past-equal, past-value, at-key}
 use Rattle.payload.specs.Answers.{faultOf}
 use Rattle.payload.specs.declared.answers.LexError.{LexError}
@@ -154,13 +154,13 @@ elsewhere-plain other kss e i m h s p =
 
 module _ (e : Bool) (s : List ℕ) (p : ℕ) where
   pub before-none : {why : Fault} → at (num 2) s p ≡ refused why → false ≡ makesKey e (aheadAt s p)
-  unfolding aheadAt walkAt from
+  unfolding aheadAt
   before-none f = sym (ahead-none s p e f)
 
   -- by the id that stands there: Equal, Open after no Equal, or neither
   module _ {k n : ℕ} (f : at (num 2) s p ≡ found k n) where
     before-id : (eqb k 0x0001 || (eqb k 0x0003 && not e)) ≡ makesKey e (aheadAt s p)
-    unfolding aheadAt walkAt from
+    unfolding aheadAt
     before-id = sym (ahead-id s p e f)
 
     pub before-equal : eqb k 0x0001 ≡ true → true ≡ makesKey e (aheadAt s p)
@@ -246,27 +246,25 @@ module _ (t : Value → Bool) (e : Bool) (d : ℕ) (s : List ℕ) (p : ℕ) wher
   -- by what is asked of a token that may be a key
   module _ {n : ℕ} {x : Bool} (m : May t s p n x) {b : Bool} (q : b ≡ asked x e d s n) where
     asked-of : {k : Bool} → b ≡ k → t (m .value) && keyHere e d (from s n) ≡ k
-    unfolding asked aheadAt walkAt from
+    unfolding asked aheadAt
     asked-of f = sym (q ∙ rw (m .wanted)) ∙ f
 
     pub to-value : b ≡ false → Leads t e d s p false d n
     to-value f = leads (m .token) (past-value t e d p (n - p) (from s n) (m .value) (m .above) (asked-of f)) (omega arith)
 
     pub to-key : {p₀ : ℕ} → p₀ ≤ p → seeking t e d (from s p) ≡ seeking t false 0 (from s p₀) → b ≡ true → NextKey t s p₀ (Key p n)
-    unfolding walkAt from
     to-key {p₀} o same f =
         let x = both (t (m .value)) (keyHere e d (from s n)) (asked-of f) in
         let k = sym (seeking-start t (from s p₀)) ∙ sym same ∙ ap (seeking t e d) (read s p (m .token) .walks) ∙ at-key t e d p (n - p) (from s n) (m .value) (m .above) (x .0) (x .1) in
         record { is = (m .value, record { onward = o; token = m .token; keys = ap (λ r. r .0) k; ending = ap (λ r. r .1) k }) }
 
   pub to-refused : p < length s → {f : LexError} → Told (at token s p) (Refused f) → {p₀ : ℕ} → seeking t e d (from s p) ≡ seeking t false 0 (from s p₀) → NextKey t s p₀ (N.Refused f p)
-  unfolding tokenAt placed walkAt from
+  unfolding tokenAt placed
   to-refused l {f} h {p₀} same =
       let k = sym (seeking-start t (from s p₀)) ∙ sym same ∙ ap (seeking t e d) (token-refused s p l (ap (placed tokenOf) (h .is))) ∙ seeking-cut t e d (refusalAt p (faultOf f)) in
       record { is = (ap (λ r. r .0) k, ap (λ r. r .1) k) }
 
   pub to-end : length s ≤ p → {p₀ : ℕ} → seeking t e d (from s p) ≡ seeking t false 0 (from s p₀) → NextKey t s p₀ End
-  unfolding walkAt from
   to-end h {p₀} same =
       let k = sym (seeking-start t (from s p₀)) ∙ sym same ∙ ap (seeking t e d) (from-end s p h) ∙ seeking-done t e d in
       record { is = (ap (λ r. r .0) k, ap (λ r. r .1) k) }

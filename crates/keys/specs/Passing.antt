@@ -10,9 +10,8 @@ use Rattle.form.specs.Values.{Value, kind}
 use Rattle.form.specs.Readers.{Answer, found, refused, at}
 use Rattle.form.specs.Table.{after}
 use Rattle.form.specs.Reading.{next, string, payload}
-use Rattle.form.specs.Calls.{cursorAt}
 use Rattle.form.specs.Keys.{ahead, makesKey}
-use Rattle.form.specs.Finding.{walkAt}
+use Rattle.form.specs.Saves.{from}
 use Rattle.payload.specs.Answers.{faultOf}
 use Rattle.keys.specs.declared.Passed.{Passed}
 use Rattle.keys.specs.declared.Passed.the-variants.{Open, Close, Equal, Plain, Other, Refused}
@@ -52,7 +51,7 @@ pub record ToldAfter (i : ℕ) (s : List ℕ) (p : ℕ) (r : Passed) : Type 0 wh
 
 -- the token at place p
 unfoldable pub aheadAt : List ℕ → ℕ → Option Value
-aheadAt s p = ahead (walkAt s (cursorAt p))
+aheadAt s p = ahead (from s p)
 
 -- what is asked of a token that is wanted or not, directly after an Equal or not, at depth d, and that ends at place p
 unfoldable pub asked : Bool → Bool → ℕ → List ℕ → ℕ → Bool

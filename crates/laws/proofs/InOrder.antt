@@ -14,13 +14,13 @@ use Rattle.form.specs.Values.{Value}
 use Rattle.form.specs.Refusals.{Refusal, ListFull, TooLong}
 use Rattle.form.specs.Readers.{Answer, found, refused}
 use Rattle.form.specs.Reading.{token}
-use Rattle.form.specs.Saves.{Walk, step, walkF, walk, LIMIT}
+use Rattle.form.specs.Saves.{Walk, step, walkF, walk, LIMIT, from}
 use Rattle.form.specs.Keys.{Around, atTop, onward, Test, isKey, keptIf, those, keysOf}
 use Rattle.form.specs.Finding.{cutBy}
 use Rattle.form.specs.Contents.{Entry, firstOr, entriesTo, contents, goesOnAt, inOrder, flat, filled, unfilled, roomFor, unlessCut, fill}
 use Rattle.laws.proofs.Never.{never}
 use Rattle.laws.proofs.Found.{All, Within, token-in}
-use Rattle.laws.proofs.Walking.{from, from-start}
+use Rattle.laws.proofs.Walking.{from-start}
 use Rattle.laws.proofs.Pairs.{Below, below-weaken}
 
 -- ---- where the tokens that pass a test stand

@@ -14,13 +14,13 @@ use Rattle.form.specs.Table.{nothing, table, entries, find, orPlain, after}
 use Rattle.form.specs.Refusals.{Fault, Refusal}
 use Rattle.form.specs.Readers.{Answer, found, refused, further, andThen, at}
 use Rattle.form.specs.Reading.{num, payload, token}
-use Rattle.form.specs.Saves.{Walk, done, cut, then, step}
+use Rattle.form.specs.Saves.{Walk, done, cut, then, step, from}
 use Rattle.form.specs.Keys.{isOpen, isClose, isEqual, Around, atTop, deeper, onward, ahead, holds, makesKey, isKey, keyThat, keptIf, those, keysOf}
 use Rattle.form.specs.Finding.{isPlain, firstPlain, cutBy, firstly, sought}
 use Rattle.laws.proofs.Never.{never}
 use Rattle.laws.proofs.Places.{at-nothing, by-id, token-then}
 use Rattle.laws.proofs.Inside.{num-inside}
-use Rattle.laws.proofs.Walking.{from, from-end, from-step}
+use Rattle.laws.proofs.Walking.{from-end, from-step}
 use Rattle.laws.proofs.Tests.{around, after-equal, Near, those-onward, key-near}
 use Rattle.laws.proofs.ById.{open-after, equal-after}
 use Rattle.laws.proofs.FirstKey.{first-kept}

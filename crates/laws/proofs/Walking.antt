@@ -8,7 +8,7 @@ use lib.Seq.{drop-drop, drop-cons}
 use Rattle.form.specs.Values.{Value}
 use Rattle.form.specs.Readers.{Answer, found, refused}
 use Rattle.form.specs.Reading.{token}
-use Rattle.form.specs.Saves.{Walk, done, then, step, walkF, walk}
+use Rattle.form.specs.Saves.{Walk, done, then, step, walkF, from, walk}
 use Rattle.laws.proofs.Found.{All, Within, token-in}
 
 step-same : (s : List ℕ) (p : ℕ) (a : Answer Value) (f g : ℕ → Walk) → All (λ _ n. Within s n) a → ((n : ℕ) → Within s n → f n ≡ g n) → step p a f ≡ step p a g
@@ -28,10 +28,6 @@ walk-same (suc k) (suc m) p [] h l = refl
 walk-same (suc k) (suc m) p (b ∷ s) h l =
     step-same (b ∷ s) p (token (b ∷ s)) _ _ (token-in (b ∷ s))
     (λ n q. walk-same k m (p + n) (drop n (b ∷ s)) (rw length-drop (omega (arith, q .some))) (rw length-drop (omega (arith, q .some))))
-
--- what is read from place p on
-unfoldable pub from : List ℕ → ℕ → Walk
-from s p = walkF (length s) p (drop p s)
 
 pub from-start : (s : List ℕ) → from s 0 ≡ walk s
 unfolding from walk

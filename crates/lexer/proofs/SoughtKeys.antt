@@ -7,6 +7,7 @@ use Rattle.form.specs.Values.{Value}
 use Rattle.form.specs.Refusals.{Refusal, refusalAt}
 use Rattle.form.specs.Calls.{Cursor, movedTo, positionOf, gives, refuses}
 use Rattle.form.specs.Finding.{cutBy, firstly, sought, staying, walkAt}
+use Rattle.form.specs.Saves.{from}
 use Rattle.laws.proofs.Seeking.{headPosition, sought-first}
 use Rattle.payload.specs.Answers.{faultOf}
 use Rattle.payload.specs.declared.answers.LexError.{LexError}
@@ -14,12 +15,12 @@ use Rattle.lexeme.specs.declared.LexemeId.{LexemeId}
 use Rattle.keys.specs.declared.Wanted.the-variants.{Plain}
 use Rattle.keys.specs.declared.Next.{Next}
 use Rattle.keys.specs.declared.Next.the-variants.{Key, End, Refused}
-use Rattle.keys.specs.Seeking.{wants, wantedFrom, walkFrom, NextKey}
+use Rattle.keys.specs.Seeking.{wants, wantedFrom, NextKey}
 
 module _ (i : LexemeId) (s : List ℕ) (c : Cursor) where
   -- by what the walk has of such keys, and what ended it
-  found-by : {l : List (ℕ × Value)} {r : Option Refusal} → wantedFrom (wants (Plain i)) s (c .at) ≡ l → cutBy (walkFrom s (c .at)) ≡ r → sought (i .0) (walkAt s c) ≡ firstly (headPosition l) r
-  unfolding wants
+  found-by : {l : List (ℕ × Value)} {r : Option Refusal} → wantedFrom (wants (Plain i)) s (c .at) ≡ l → cutBy (from s (c .at)) ≡ r → sought (i .0) (walkAt s c) ≡ firstly (headPosition l) r
+  unfolding wants walkAt from
   found-by e f = sought-first (i .0) (walkAt s c) ∙ rw (e, f)
 
   module _ {r : Next} (h : NextKey (wants (Plain i)) s (c .at) r) where

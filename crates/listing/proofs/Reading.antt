@@ -5,10 +5,10 @@ use mathlib.Core.List.{List, _++_}
 use lib.ListN.{length}
 use Rattle.form.specs.Refusals.{Refusal}
 use Rattle.form.specs.Readers.{found}
-use Rattle.form.specs.Saves.{cut, walk}
+use Rattle.form.specs.Saves.{cut, walk, from}
 use Rattle.form.specs.Listing.{tokenLine, endLine, errorLine, linesOf, listing}
 use Rattle.form.specs.Keys.{Counts}
-use Rattle.laws.proofs.Walking.{from, from-start, from-end}
+use Rattle.laws.proofs.Walking.{from-start, from-end}
 use Rattle.token.specs.Tokens.{valueOf, tokenAt}
 use Rattle.token.specs.declared.Token.{Token}
 use Rattle.token.proofs.Walks.{Read, token-read, token-is}

@@ -8,10 +8,10 @@ use lib.ListN.{length, take, drop, length-append}
 use lib.Seq.{take-add, drop-drop}
 use Rattle.form.specs.Values.{Value}
 use Rattle.form.specs.Refusals.{Refusal}
-use Rattle.form.specs.Saves.{Walk, then, walk, values, tokens, spellAll}
+use Rattle.form.specs.Saves.{Walk, then, walk, values, tokens, spellAll, from}
 use Rattle.form.specs.Writing.{Output, written, unwritten, firstRefusal, unless}
 use Rattle.laws.proofs.Runs.{part-length}
-use Rattle.laws.proofs.Walking.{from, from-end}
+use Rattle.laws.proofs.Walking.{from-end}
 use Rattle.normaliser.specs.Stretches.{Style, outputOf, unbounded, rest, before, between, Spells}
 
 -- ---- what is left

@@ -14,12 +14,12 @@ use Rattle.form.specs.Readers.{found}
 use Rattle.form.specs.Spelling.{spell, reason, wide}
 use Rattle.form.specs.Shortest.{shortest}
 use Rattle.form.specs.Writing.{fitted, write, writeShortest, unless}
+use Rattle.form.specs.Saves.{from}
 use Rattle.laws.proofs.LittleEndian.{drop-bytes}
 use Rattle.laws.proofs.Reasons.{only-wide}
 use Rattle.laws.proofs.Sound.{Sound, token-sound}
 use Rattle.laws.proofs.Least.{Short, token-short}
 use Rattle.laws.proofs.TextsLast.{ownText, Ends}
-use Rattle.laws.proofs.Walking.{from}
 use Rattle.token.specs.declared.Token.{Token}
 use Rattle.token.specs.Tokens.{tokenOf, valueOf, tokenAt}
 use Rattle.token.proofs.Walks.{Read, token-read, token-is}

@@ -8,10 +8,10 @@ use Rattle.form.specs.Values.{Value}
 use Rattle.form.specs.Refusals.{Fault, refusalAt}
 use Rattle.form.specs.Readers.{Answer, found, refused, at, further, mapped, placed}
 use Rattle.form.specs.Reading.{token}
-use Rattle.form.specs.Saves.{then, cut, step}
+use Rattle.form.specs.Saves.{then, cut, step, from}
 use Rattle.laws.proofs.Never.{never}
 use Rattle.laws.proofs.Found.{All, Within, token-in}
-use Rattle.laws.proofs.Walking.{from, from-step}
+use Rattle.laws.proofs.Walking.{from-step}
 use Rattle.laws.proofs.TextsLast.{Ends, token-ends-at}
 use Rattle.token.specs.declared.Token.{Token}
 use Rattle.token.specs.Tokens.{tokenOf, valueOf, tokenAt}

@@ -6,7 +6,7 @@ use native.Mathlib.Omega.{arith}
 use mathlib.Core.Path.{_≡_, refl, _∙_}
 use mathlib.Core.Bool.{false}
 use lib.ListN.{length}
-use Rattle.laws.proofs.Walking.{from}
+use Rattle.form.specs.Saves.{from}
 use Rattle.laws.proofs.Seeking.{seeking}
 use Rattle.keys.specs.Seeking.{wants}
 use Rattle.keys.proofs.Passing.{known, plain-may, other-may, to-open, to-close, to-equal, to-value, to-key, to-refused, to-end}

@@ -5,7 +5,7 @@ use native.Mathlib.Omega.{arith}
 use mathlib.Core.Path.{_≡_, sym, _∙_}
 use lib.ListN.{length}
 use borrow.Author.Needs.{needs}
-use Rattle.laws.proofs.Walking.{from}
+use Rattle.form.specs.Saves.{from}
 use Rattle.payload.proofs.LetElse.{gotOf}
 use Rattle.token.proofs.LetElse.{token-else}
 use Rattle.token.specs.Tokens.{tokenAnswer}
