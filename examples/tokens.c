@@ -3,13 +3,14 @@
  * entries, or the one that holds a position. C99 and C++ alike; examples/check compiles it as both, and runs it.
  *
  *     tokens SAVE [NORMAL-FORM [SHORTEST]]
- *     tokens --key ID SAVE
+ *     tokens --key ID SAVE [HEADER]
  *     tokens --contents SAVE [POSITION]
  *
  * A line for each token: its position, its kind, its value. A text stands in quotes, with the bytes that are not printable ASCII, and quotes
- * and backslashes, as \xNN. A float is its bytes in hex, the lowest first. Of a key: its position, or `none`. A line START-END for each entry:
- * where its key stands, and the place after its last byte; of a position the number of its entry, from 0, and START-END, or `none`. The exit
- * status is 0 if all is well; 1 if the save is refused, and standard error has the refusal; 2 if something cannot be read or written.
+ * and backslashes, as \xNN. A float is its bytes in hex, the lowest first. Of a key: its position, or `none`. HEADER is how many bytes of the
+ * file stand before the save's first, 0 if it is not given; the position is that in the file. A line START-END for each entry: where its key
+ * stands, and the place after its last byte; of a position the number of its entry, from 0, and START-END, or `none`. The exit status is 0 if all is
+ * well; 1 if the save is refused, and standard error has the refusal; 2 if something cannot be read or written.
  */
 #include <errno.h>
 #include <inttypes.h>
@@ -41,8 +42,21 @@ static int printed(const char *what, int status) {
 }
 
 static int usage(void) {
-    fputs("tokens SAVE [NORMAL-FORM [SHORTEST]], tokens --key ID SAVE, or tokens --contents SAVE [POSITION]\n", stderr);
+    fputs("tokens SAVE [NORMAL-FORM [SHORTEST]], tokens --key ID SAVE [HEADER], or tokens --contents SAVE [POSITION]\n", stderr);
     return FAILED;
+}
+
+static int too_short(const char *name) {
+    fprintf(stderr, "tokens: %s: shorter than its header\n", name);
+    return FAILED;
+}
+
+/* Whether a word is a decimal number; and the number. */
+static bool number(const char *word, uint64_t *value) {
+    char *end = NULL;
+    errno = 0;
+    *value = strtoull(word, &end, 10);
+    return *word >= '0' && *word <= '9' && *end == '\0' && errno == 0;
 }
 
 /* The refusals that these calls have, each with its number: a position, or the length of a save that is too long. */
@@ -163,13 +177,13 @@ static int print_token(const struct save *save, uint64_t position, uint64_t kind
     return status;
 }
 
-/* Word 0 of each answer is the cursor for the next call. */
+/* Word 0 of each answer is the place for the next call. The save is the whole file: its offset is 0. */
 static int print_tokens(const struct save *save) {
     uint64_t answer[STIVLAHEIM_WORDS] = {0};
     uint64_t at = 0;
     int status = WELL;
     while (status == WELL) {
-        uint32_t code = stivlaheim_next_token(save->bytes, save->len, (size_t)at, answer, STIVLAHEIM_WORDS);
+        uint32_t code = stivlaheim_next_token(save->bytes, save->len, (size_t)at, 0, answer, STIVLAHEIM_WORDS);
         if (code == STIVLAHEIM_NONE) {
             break;
         }
@@ -217,33 +231,39 @@ static int write_spelled(const struct save *save, const char *name, spelling *sp
 
 /* ---- a key */
 
-/* Nothing after the token that follows the key is looked at: a save that is damaged there has the same answer. */
-static int print_key(const struct save *save, uint16_t id) {
+/* The save begins after the header, and that is its offset: the positions that are told are those of the file. Nothing after the token that
+ * follows the key is looked at: a save that is damaged there has the same answer. */
+static int print_key(const struct save *file, size_t header, uint16_t id) {
+    struct save save = {file->name, file->bytes + header, file->len - header};
     uint64_t answer[STIVLAHEIM_WORDS] = {0};
-    uint32_t code = stivlaheim_find_key(save->bytes, save->len, 0, id, answer, STIVLAHEIM_WORDS);
+    uint32_t code = stivlaheim_find_key(save.bytes, save.len, 0, header, id, answer, STIVLAHEIM_WORDS);
     if (code == STIVLAHEIM_ANSWERED) {
         printf("%" PRIu64 "\n", answer[1]);
     } else if (code == STIVLAHEIM_NONE) {
         puts("none");
     } else {
-        return refused(save, code, answer[1]);
+        return refused(&save, code, answer[1]);
     }
     return printed("the position", WELL);
 }
 
-/* The id is decimal, or hex after 0x. */
-static int find_key(const char *word, const char *name) {
+/* The id is decimal, or hex after 0x; the header's length is decimal, and 0 without a word for it. */
+static int find_key(const char *word, const char *name, const char *length) {
     char *end = NULL;
     unsigned long id = strtoul(word, &end, 0);
-    if (end == word || *end != '\0' || id > 0xffff) {
+    uint64_t header = 0;
+    if (end == word || *end != '\0' || id > 0xffff || (length != NULL && !number(length, &header))) {
         return usage();
     }
-    struct save save = {name, NULL, 0};
-    int status = read_save(&save);
-    if (status == WELL) {
-        status = print_key(&save, (uint16_t)id);
+    struct save file = {name, NULL, 0};
+    int status = read_save(&file);
+    if (status == WELL && header > file.len) {
+        status = too_short(name);
     }
-    free(save.bytes);
+    if (status == WELL) {
+        status = print_key(&file, (size_t)header, (uint16_t)id);
+    }
+    free(file.bytes);
     return status;
 }
 
@@ -303,13 +323,8 @@ static int print_entries(const struct list *list) {
 /* The position is decimal; without one all entries are listed. */
 static int contents(const char *name, const char *word) {
     uint64_t position = 0;
-    if (word != NULL) {
-        char *end = NULL;
-        errno = 0;
-        position = strtoull(word, &end, 10);
-        if (*word < '0' || *word > '9' || *end != '\0' || errno != 0) {
-            return usage();
-        }
+    if (word != NULL && !number(word, &position)) {
+        return usage();
     }
     struct save save = {name, NULL, 0};
     struct list list = {NULL, 0};
@@ -327,7 +342,7 @@ static int contents(const char *name, const char *word) {
 
 int main(int count, char **arguments) {
     if (count > 1 && strcmp(arguments[1], "--key") == 0) {
-        return count == 4 ? find_key(arguments[2], arguments[3]) : usage();
+        return count == 4 || count == 5 ? find_key(arguments[2], arguments[3], count == 5 ? arguments[4] : NULL) : usage();
     }
     if (count > 1 && strcmp(arguments[1], "--contents") == 0) {
         return count == 3 || count == 4 ? contents(arguments[2], count == 4 ? arguments[3] : NULL) : usage();

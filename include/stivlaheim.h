@@ -56,7 +56,7 @@ enum {
     STIVLAHEIM_NO_ROOM = 4,          /* the bytes needed */
     STIVLAHEIM_BUFFER_TOO_SMALL = 5, /* the position */
     STIVLAHEIM_READ_FAILED = 6,      /* the position */
-    STIVLAHEIM_BAD_PLACE = 7,        /* the place given */
+    STIVLAHEIM_BAD_PLACE = 7,        /* the number given that does not fit: a place, or an offset */
     STIVLAHEIM_TOO_LONG = 8,         /* the input's length; of stivlaheim_contents_write the number of entries */
     STIVLAHEIM_LIST_FULL = 10,       /* the number of entries needed */
     STIVLAHEIM_BAD_INDEX = 11,       /* nothing, and so 0 */
@@ -104,86 +104,97 @@ uint32_t stivlaheim_get_split(const uint8_t *bytes, size_t bytes_len, size_t cou
  * word 0 too, if it does not lie within the bytes. */
 uint32_t stivlaheim_text(const uint8_t *bytes, size_t bytes_len, size_t start, size_t len, uint64_t *answer, size_t answer_len);
 
-/* ---- The lexer: each call begins at the cursor `at`, and word 0 is the cursor to go on with.
+/* ---- The lexer: each call begins at the cursor, which is `at` and `offset`. `at` is a place in the bytes, and word 0 is the place to go on
+ * with. `offset` is where the first of the bytes stands in the file; it stays the same, and is 0 if the bytes are the whole file.
  *
- * A cursor past the bytes is refused first, with BAD_PLACE. A refused read leaves the cursor where it began, and that is the refusal's
- * position. A refused skip leaves it where the read began that failed, and that is the position. find_key never moves it. */
+ * A position is one in the file, offset and place together: that of EOF and INVALID_RGB, of stivlaheim_position and of stivlaheim_find_key.
+ * Nothing else has the offset in it: not word 0, not the start of a part, not what is missing.
+ *
+ * An offset that is over 2^64 - 1 together with the number of bytes is refused first: BAD_PLACE with the offset. Then a cursor past the bytes:
+ * BAD_PLACE with `at`. A refused read leaves the cursor where it began, and there is the refusal's position. A refused skip leaves it where the
+ * read began that failed, and there is the position. find_key never moves it. */
+
+/* The position of the cursor in the file; the cursor stays. */
+uint32_t stivlaheim_position(const uint8_t *bytes, size_t bytes_len, size_t at, size_t offset, uint64_t *answer, size_t answer_len);
 
 /* The next token. */
-uint32_t stivlaheim_read_token(const uint8_t *bytes, size_t bytes_len, size_t at, uint64_t *answer, size_t answer_len);
+uint32_t stivlaheim_read_token(const uint8_t *bytes, size_t bytes_len, size_t at, size_t offset, uint64_t *answer, size_t answer_len);
 
 /* The same, and NONE at the end. */
-uint32_t stivlaheim_next_token(const uint8_t *bytes, size_t bytes_len, size_t at, uint64_t *answer, size_t answer_len);
+uint32_t stivlaheim_next_token(const uint8_t *bytes, size_t bytes_len, size_t at, size_t offset, uint64_t *answer, size_t answer_len);
 
 /* The next token, with the cursor left where it is; NONE if a read would be refused. */
-uint32_t stivlaheim_peek_token(const uint8_t *bytes, size_t bytes_len, size_t at, uint64_t *answer, size_t answer_len);
+uint32_t stivlaheim_peek_token(const uint8_t *bytes, size_t bytes_len, size_t at, size_t offset, uint64_t *answer, size_t answer_len);
 
 /* The next id: two bytes. */
-uint32_t stivlaheim_read_id(const uint8_t *bytes, size_t bytes_len, size_t at, uint64_t *answer, size_t answer_len);
+uint32_t stivlaheim_read_id(const uint8_t *bytes, size_t bytes_len, size_t at, size_t offset, uint64_t *answer, size_t answer_len);
 
 /* The same, and NONE at the end. */
-uint32_t stivlaheim_next_id(const uint8_t *bytes, size_t bytes_len, size_t at, uint64_t *answer, size_t answer_len);
+uint32_t stivlaheim_next_id(const uint8_t *bytes, size_t bytes_len, size_t at, size_t offset, uint64_t *answer, size_t answer_len);
 
 /* The next id, with the cursor left where it is; NONE if a read would be refused. */
-uint32_t stivlaheim_peek_id(const uint8_t *bytes, size_t bytes_len, size_t at, uint64_t *answer, size_t answer_len);
+uint32_t stivlaheim_peek_id(const uint8_t *bytes, size_t bytes_len, size_t at, size_t offset, uint64_t *answer, size_t answer_len);
 
 /* A string, after its id: the part that is its text. */
-uint32_t stivlaheim_read_string(const uint8_t *bytes, size_t bytes_len, size_t at, uint64_t *answer, size_t answer_len);
+uint32_t stivlaheim_read_string(const uint8_t *bytes, size_t bytes_len, size_t at, size_t offset, uint64_t *answer, size_t answer_len);
 
 /* A bool, after its id: one byte, and nonzero is true. */
-uint32_t stivlaheim_read_bool(const uint8_t *bytes, size_t bytes_len, size_t at, uint64_t *answer, size_t answer_len);
+uint32_t stivlaheim_read_bool(const uint8_t *bytes, size_t bytes_len, size_t at, size_t offset, uint64_t *answer, size_t answer_len);
 
 /* A lookup of one byte, after its id. */
-uint32_t stivlaheim_read_lookup_u8(const uint8_t *bytes, size_t bytes_len, size_t at, uint64_t *answer, size_t answer_len);
+uint32_t stivlaheim_read_lookup_u8(const uint8_t *bytes, size_t bytes_len, size_t at, size_t offset, uint64_t *answer, size_t answer_len);
 
 /* A lookup of two bytes, after its id. */
-uint32_t stivlaheim_read_lookup_u16(const uint8_t *bytes, size_t bytes_len, size_t at, uint64_t *answer, size_t answer_len);
+uint32_t stivlaheim_read_lookup_u16(const uint8_t *bytes, size_t bytes_len, size_t at, size_t offset, uint64_t *answer, size_t answer_len);
 
 /* A lookup of three bytes, after its id. */
-uint32_t stivlaheim_read_lookup_u24(const uint8_t *bytes, size_t bytes_len, size_t at, uint64_t *answer, size_t answer_len);
+uint32_t stivlaheim_read_lookup_u24(const uint8_t *bytes, size_t bytes_len, size_t at, size_t offset, uint64_t *answer, size_t answer_len);
 
 /* A lookup of four bytes, after its id. */
-uint32_t stivlaheim_read_lookup_u32(const uint8_t *bytes, size_t bytes_len, size_t at, uint64_t *answer, size_t answer_len);
+uint32_t stivlaheim_read_lookup_u32(const uint8_t *bytes, size_t bytes_len, size_t at, size_t offset, uint64_t *answer, size_t answer_len);
 
 /* An unsigned number of four bytes, after its id. */
-uint32_t stivlaheim_read_u32(const uint8_t *bytes, size_t bytes_len, size_t at, uint64_t *answer, size_t answer_len);
+uint32_t stivlaheim_read_u32(const uint8_t *bytes, size_t bytes_len, size_t at, size_t offset, uint64_t *answer, size_t answer_len);
 
 /* An unsigned number of eight bytes, after its id. */
-uint32_t stivlaheim_read_u64(const uint8_t *bytes, size_t bytes_len, size_t at, uint64_t *answer, size_t answer_len);
+uint32_t stivlaheim_read_u64(const uint8_t *bytes, size_t bytes_len, size_t at, size_t offset, uint64_t *answer, size_t answer_len);
 
 /* A signed number of four bytes, after its id. */
-uint32_t stivlaheim_read_i32(const uint8_t *bytes, size_t bytes_len, size_t at, uint64_t *answer, size_t answer_len);
+uint32_t stivlaheim_read_i32(const uint8_t *bytes, size_t bytes_len, size_t at, size_t offset, uint64_t *answer, size_t answer_len);
 
 /* A signed number of eight bytes, after its id. */
-uint32_t stivlaheim_read_i64(const uint8_t *bytes, size_t bytes_len, size_t at, uint64_t *answer, size_t answer_len);
+uint32_t stivlaheim_read_i64(const uint8_t *bytes, size_t bytes_len, size_t at, size_t offset, uint64_t *answer, size_t answer_len);
 
 /* A float of four bytes, after its id. */
-uint32_t stivlaheim_read_f32(const uint8_t *bytes, size_t bytes_len, size_t at, uint64_t *answer, size_t answer_len);
+uint32_t stivlaheim_read_f32(const uint8_t *bytes, size_t bytes_len, size_t at, size_t offset, uint64_t *answer, size_t answer_len);
 
 /* A float of eight bytes, after its id. */
-uint32_t stivlaheim_read_f64(const uint8_t *bytes, size_t bytes_len, size_t at, uint64_t *answer, size_t answer_len);
+uint32_t stivlaheim_read_f64(const uint8_t *bytes, size_t bytes_len, size_t at, size_t offset, uint64_t *answer, size_t answer_len);
 
 /* A colour, after its id. */
-uint32_t stivlaheim_read_rgb(const uint8_t *bytes, size_t bytes_len, size_t at, uint64_t *answer, size_t answer_len);
+uint32_t stivlaheim_read_rgb(const uint8_t *bytes, size_t bytes_len, size_t at, size_t offset, uint64_t *answer, size_t answer_len);
 
 /* The part that is the next `count` bytes. */
-uint32_t stivlaheim_read_bytes(const uint8_t *bytes, size_t bytes_len, size_t at, size_t count, uint64_t *answer, size_t answer_len);
+uint32_t stivlaheim_read_bytes(const uint8_t *bytes, size_t bytes_len, size_t at, size_t offset, size_t count, uint64_t *answer,
+                               size_t answer_len);
 
 /* Past the value whose id was read just before the cursor. It has no words. */
-uint32_t stivlaheim_skip_value(const uint8_t *bytes, size_t bytes_len, size_t at, uint16_t id, uint64_t *answer, size_t answer_len);
+uint32_t stivlaheim_skip_value(const uint8_t *bytes, size_t bytes_len, size_t at, size_t offset, uint16_t id, uint64_t *answer,
+                               size_t answer_len);
 
 /* From inside a container to the place after its Close. It has no words. */
-uint32_t stivlaheim_skip_container(const uint8_t *bytes, size_t bytes_len, size_t at, uint64_t *answer, size_t answer_len);
+uint32_t stivlaheim_skip_container(const uint8_t *bytes, size_t bytes_len, size_t at, size_t offset, uint64_t *answer, size_t answer_len);
 
 /* The position of the first key that is the plain id `id`, from the cursor on; the cursor stays. A key is a token other than Open, Close and
  * Equal, outside of every container that begins after the cursor, directly followed by Equal, or directly followed by Open and not itself
  * directly after an Equal; what stands before the cursor does not count, and a colour is one token. NONE if the id is no key and all was read;
  * EOF or INVALID_RGB, with the position of the refused token, if it is none before that. No byte after the token that follows the key is
  * looked at. */
-uint32_t stivlaheim_find_key(const uint8_t *bytes, size_t bytes_len, size_t at, uint16_t id, uint64_t *answer, size_t answer_len);
+uint32_t stivlaheim_find_key(const uint8_t *bytes, size_t bytes_len, size_t at, size_t offset, uint16_t id, uint64_t *answer,
+                             size_t answer_len);
 
 /* The part that is left; the cursor stays. */
-uint32_t stivlaheim_remainder(const uint8_t *bytes, size_t bytes_len, size_t at, uint64_t *answer, size_t answer_len);
+uint32_t stivlaheim_remainder(const uint8_t *bytes, size_t bytes_len, size_t at, size_t offset, uint64_t *answer, size_t answer_len);
 
 /* ---- Whole saves */
 

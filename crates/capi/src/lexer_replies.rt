@@ -1,6 +1,6 @@
 // The reply to each answer of a lexer's call from a cursor.
 ghost use mathlib.Core.Path.{_≡_};
-ghost use Rattle.lexer.specs.Calls.{u8Call, u16Call, u32Call, u64Call, i32Call, i64Call, boolCall, idCall, stringCall, rgbCall, tokenCall, nextIdCall, nextTokenCall, peekIdCall, peekTokenCall, skipCall, findCall};
+ghost use Rattle.lexer.specs.Calls.{u8Call, u16Call, u32Call, u64Call, i32Call, i64Call, boolCall, idCall, stringCall, rgbCall, tokenCall, nextIdCall, nextTokenCall, peekIdCall, peekTokenCall, positionCall, skipCall, findCall};
 ghost use Rattle.capi.specs.Replies.{replyOf, replyOrNone};
 ghost use Rattle.capi.specs.Words.{noWords, numberWords, boolWords, signedWords, textWords, colourWords, tokenWords};
 ghost use Rattle.capi.specs.Code.{asReply};
@@ -13,6 +13,7 @@ use lexer::LexFind;
 use lexer::LexI32;
 use lexer::LexI64;
 use lexer::LexId;
+use lexer::LexPosition;
 use lexer::LexRgb;
 use lexer::LexSkip;
 use lexer::LexString;
@@ -172,6 +173,15 @@ pub(crate) fn of_skip(r: LexSkip) -> Reply
     match r {
         LexSkip::Done(end) => replies::answered(end.at, 0, 0, 0),
         LexSkip::Refused(e, end) => replies::refused(end.at, e),
+    }
+}
+
+pub(crate) fn of_position(c: Lexer, r: LexPosition) -> Reply
+    ensures { λ x. ⌜ asReply x ≡ replyOf numberWords (positionCall c r) ⌝ }
+{
+    match r {
+        LexPosition::Got(position) => replies::answered(c.at, position as u64, 0, 0),
+        LexPosition::Refused(e) => replies::refused(c.at, e),
     }
 }
 

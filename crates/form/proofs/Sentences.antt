@@ -1,12 +1,12 @@
 -- What FORMAT.md says in sentences that no marked specimen tries: a theorem of examples for each part of the definition. Assumes nothing.
-use Prim.Native.Nat.{ℕ, _+_}
+use Prim.Native.Nat.{ℕ, _+_, _-_}
 use mathlib.Core.Path.{_≡_, refl}
 use mathlib.Core.Bool.{true, false}
 use mathlib.Core.Option.{none, some}
 use mathlib.Core.List.{List, [], _∷_, _++_}
 use lib.ListN.{length, replicate}
 use lib.Dec.{ltb}
-use Rattle.form.specs.Numbers.{le, leBytes}
+use Rattle.form.specs.Numbers.{le, leBytes, MAX}
 use Rattle.form.specs.Values.{Value, Open, Close, Equal, F64, Lookup, Id, Truth, Quoted, Unquoted, Rgb, kind}
 use Rattle.form.specs.Table.{table, entries, find, orPlain, after, reserved}
 use Rattle.form.specs.Ids.{OPEN, CLOSE, CHANNEL}
@@ -14,7 +14,7 @@ use Rattle.form.specs.Refusals.{Eof, LongString, WideLookup, ReservedId,
 use Rattle.form.specs.Readers.{further, andThen, mapped, _followed-by_, _giving_, give, at}
 use Rattle.form.specs.Reading.{next, piece, num, string, channel, alphaEnd, withAlpha, ending, headed, judged, channels, rgb, payload, token}
 use Rattle.form.specs.Skipping.{stepped, passing, orStop, closed, turned, skipF, skipping, skipContainer}
-use Rattle.form.specs.Calls.{cursorAt, atStart, gives, refuses, within, ended, reads, optional, nexts, ifFound, peeks, landed, skips}
+use Rattle.form.specs.Calls.{cursorIn, cursorAt, atStart, gives, refuses, fits, within, positions, ended, reads, optional, nexts, ifFound, peeks, landed, skips}
 use Rattle.form.specs.Spelling.{tag, body, spell, reason}
 use Rattle.form.specs.Shortest.{heldBy, firstOf, firstIn, otherwise, orSpelled, shortest}
 use Rattle.form.specs.Saves.{Walk, done, then, step, walkF, walk}
@@ -32,7 +32,7 @@ pub skips-hold : (skips skipContainer (0x03 ∷ 0x00 ∷ 0x04 ∷ 0x00 ∷ 0x04 
     × (skips skipContainer (0x0f ∷ 0x00 ∷ 0x02 ∷ 0x00 ∷ 0x61 ∷ []) atStart ≡ eof 2 1)
     × (skips skipContainer (0x01 ∷ 0x00 ∷ 0x04 ∷ []) atStart ≡ eof 2 1)
 unfolding le kind table entries find orPlain after OPEN CLOSE CHANNEL refusalAt further andThen mapped _followed-by_ _giving_ next
-    num string channel rgb payload at stepped passing orStop closed turned skipF skipping skipContainer within landed skips
+    num string channel rgb payload at stepped passing orStop closed turned skipF skipping skipContainer fits within landed skips
 skips-hold = (refl, refl, refl)
 
 -- a colour with an alpha, and a lookup of three bytes by its second id
@@ -42,7 +42,7 @@ pub reads-hold : (reads (at token)
     ≡ gives (Rgb 1 2 3 (some 4)) (cursorAt 30))
     × (reads (at token) (0x45 ∷ 0x0d ∷ 0x07 ∷ 0x00 ∷ 0x00 ∷ []) atStart ≡ gives (Lookup 7) (cursorAt 5))
 unfolding le table entries find orPlain after OPEN CLOSE CHANNEL further andThen mapped _followed-by_ _giving_ give next piece num channel alphaEnd withAlpha ending headed
-    judged channels rgb payload token at within ended reads
+    judged channels rgb payload token at fits within ended reads
 reads-hold = (refl, refl)
 
 -- what is missing of a piece, not of a token: of an id, a text's length, the text, a colour's first 22 bytes, and its last six; a skip tells it
@@ -58,7 +58,7 @@ pub missing-holds : (reads (at token) [] atStart ≡ eof 0 2)
     × (skips skipContainer (0x14 ∷ 0x00 ∷ 0x01 ∷ 0x00 ∷ 0x00 ∷ 0x00 ∷ 0x01 ∷ 0x28 ∷ 0x14 ∷ 0x00 ∷ []) atStart ≡ eof 10 4)
     × (refusalValues (Eof 10 4) ≡ 10 ∷ 4 ∷ [])
 unfolding le kind table entries find orPlain after OPEN CLOSE CHANNEL refusalAt refusalValues further andThen mapped _followed-by_ _giving_ next
-    piece num string channel alphaEnd withAlpha ending headed judged channels rgb payload token at stepped passing orStop closed turned skipF skipping skipContainer within
+    piece num string channel alphaEnd withAlpha ending headed judged channels rgb payload token at stepped passing orStop closed turned skipF skipping skipContainer fits within
     landed skips ended reads
 missing-holds = (refl, refl, refl, refl, refl, refl, refl)
 
@@ -66,9 +66,27 @@ missing-holds = (refl, refl, refl, refl, refl, refl, refl)
 pub calls-hold : (peeks (at token) (0x03 ∷ 0x00 ∷ []) atStart ≡ gives (some Open) atStart)
     × (peeks (at token) (0x03 ∷ []) atStart ≡ gives none atStart)
     × (nexts (at token) [] (cursorAt 1) ≡ refuses (BadPlace 1) (cursorAt 1))
-unfolding le table entries find orPlain after refusalAt further andThen mapped _followed-by_ _giving_ next num payload token at within ended reads optional
+unfolding le table entries find orPlain after refusalAt further andThen mapped _followed-by_ _giving_ next num payload token at fits within ended reads optional
     nexts ifFound peeks
 calls-hold = (refl, refl, refl)
+
+-- a position is one of the file: a refusal's, a key's and the cursor's own; the cursor and a place that is refused are the input's; the largest
+-- position there can be is allowed, and an offset beyond that is refused before the cursor, by every call
+pub offsets-hold : (positions (0x03 ∷ 0x00 ∷ []) (cursorIn 100 2) ≡ gives 102 (cursorIn 100 2))
+    × (reads (at token) (0x03 ∷ []) (cursorIn 100 0) ≡ refuses (Eof 100 1) (cursorIn 100 0))
+    × (reads (at token) (0x03 ∷ 0x00 ∷ []) (cursorIn 100 0) ≡ gives Open (cursorIn 100 2))
+    × (nexts (at token) (0x03 ∷ []) (cursorIn 100 2) ≡ refuses (BadPlace 2) (cursorIn 100 2))
+    × (skips skipContainer (0x0f ∷ 0x00 ∷ 0x02 ∷ 0x00 ∷ 0x61 ∷ []) (cursorIn 100 0) ≡ refuses (Eof 102 1) (cursorIn 100 2))
+    × (finds 0x2801 (0x01 ∷ 0x28 ∷ 0x01 ∷ 0x00 ∷ []) (cursorIn 100 0) ≡ gives (some 100) (cursorIn 100 0))
+    × (finds 0x2801 (0x01 ∷ 0x28 ∷ 0x01 ∷ []) (cursorIn 100 0) ≡ refuses (Eof 102 1) (cursorIn 100 0))
+    × (nexts (at token) (0x03 ∷ 0x00 ∷ []) (cursorIn (MAX - 2) 2) ≡ gives none (cursorIn (MAX - 2) 2))
+    × (nexts (at token) (0x03 ∷ 0x00 ∷ []) (cursorIn (MAX - 1) 2) ≡ refuses (BadPlace (MAX - 1)) (cursorIn (MAX - 1) 2))
+    × (peeks (at token) (0x03 ∷ 0x00 ∷ []) (cursorIn (MAX - 1) 3) ≡ refuses (BadPlace (MAX - 1)) (cursorIn (MAX - 1) 3))
+    × (positions (0x03 ∷ 0x00 ∷ []) (cursorIn (MAX - 1) 0) ≡ refuses (BadPlace (MAX - 1)) (cursorIn (MAX - 1) 0))
+unfolding le kind table entries find orPlain after OPEN CLOSE CHANNEL refusalAt further andThen mapped _followed-by_ _giving_ next num string channel rgb payload token at
+    stepped passing orStop closed turned skipF skipping skipContainer fits within positions ended reads optional nexts ifFound peeks landed skips step walkF tag
+    isOpen isClose isEqual deeper ahead makesKey isKey those keysOf isPlain firstPlain cutBy firstly sought staying walkAt finds
+offsets-hold = (refl, refl, refl, refl, refl, refl, refl, refl, refl, refl, refl)
 
 -- a wide lookup is refused at its position; what is written changes only the bytes written, and a refusal none
 pub writing-holds : (normalise 99 (0x01 ∷ 0x00 ∷ 0x3f ∷ 0x0d ∷ 0x00 ∷ 0x00 ∷ 0x00 ∷ 0x01 ∷ []) ≡ unwritten (WideLookup 2))
@@ -146,5 +164,5 @@ pub finds-hold : (finds 0x2802 (0x01 ∷ 0x28 ∷ 0x01 ∷ 0x00 ∷ 0x02 ∷ 0x2
     × (finds 0x2801 (0x02 ∷ 0x28 ∷ 0x01 ∷ 0x00 ∷ 0x01 ∷ 0x28 ∷ 0x03 ∷ 0x00 ∷ []) atStart ≡ gives none atStart)
     × (finds 0x2801 (0x02 ∷ 0x28 ∷ 0x01 ∷ 0x00 ∷ 0x01 ∷ 0x28 ∷ 0x03 ∷ 0x00 ∷ []) (cursorAt 4) ≡ gives (some 4) (cursorAt 4))
 unfolding le kind table entries find orPlain after refusalAt further andThen mapped _followed-by_ _giving_ next num string payload token step walkF tag
-    isOpen isClose isEqual deeper ahead makesKey isKey those keysOf within isPlain firstPlain cutBy firstly sought staying walkAt finds
+    isOpen isClose isEqual deeper ahead makesKey isKey those keysOf fits within isPlain firstPlain cutBy firstly sought staying walkAt finds
 finds-hold = (refl, refl, refl, refl, refl, refl, refl, refl, refl, refl, refl, refl, refl)

@@ -14,7 +14,7 @@ use Rattle.form.specs.Refusals.{Eof, WideLookup, NoRoom, refusalAt}
 use Rattle.form.specs.Readers.{further, andThen, mapped, _followed-by_, _giving_, at}
 use Rattle.form.specs.Reading.{next, piece, num, string, rgb, payload, token}
 use Rattle.form.specs.Skipping.{stepped, passing, orStop, closed, turned, skipF, skipping, skipContainer, skipValue}
-use Rattle.form.specs.Calls.{cursorAt, atStart, Call, gives, refuses, within, ended, reads, optional, nexts, landed, skips}
+use Rattle.form.specs.Calls.{cursorAt, atStart, Call, gives, refuses, fits, within, ended, reads, optional, nexts, landed, skips}
 use Rattle.form.specs.Spelling.{tag, body, spell, reason, writable, wide}
 use Rattle.form.specs.Saves.{step, walkF, walk, values, whole, tokens, spellAll, normal, allNarrow, Clean}
 use Rattle.form.specs.Writing.{Output, written, unwritten, fitted, write, firstRefusal, unless, normalise}
@@ -102,7 +102,7 @@ specimens =
 -- the definitions answer each specimen as FORMAT.md says
 pub specimens-hold : map (λ (s : Specimen). answer (s .ask)) specimens ≡ map (λ (s : Specimen). s .reply) specimens
 unfolding answer specimens save saveNormal _⇒_ le leBytes kind table entries find orPlain after OPEN CLOSE CHANNEL refusalAt further
-    andThen mapped _followed-by_ _giving_ next piece num string rgb payload token at within ended reads optional nexts landed skips tag body spell
+    andThen mapped _followed-by_ _giving_ next piece num string rgb payload token at fits within ended reads optional nexts landed skips tag body spell
     reserved reason stepped passing orStop closed turned skipF skipping skipContainer skipValue step walkF walk values tokens spellAll normal fitted write
     firstRefusal unless normalise
 specimens-hold = refl

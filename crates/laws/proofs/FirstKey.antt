@@ -7,21 +7,22 @@ use mathlib.Core.Option.{Option, none, some}
 use mathlib.Core.List.{List, [], _∷_}
 use lib.ListN.{length, drop, length-drop}
 use lib.Seq.{drop-drop}
-use lib.Dec.{eqb, leb}
-use borrow.Author.Tests.{eqb-true, le-leb, leb-true}
+use lib.Dec.{eqb}
+use borrow.Author.Tests.{eqb-true}
 use Rattle.form.specs.Numbers.{pick}
 use Rattle.form.specs.Values.{Value, Open, Close, Equal, U32, U64, F32, F64, Lookup, Id, I32, I64, Truth, Quoted, Unquoted, Rgb, kind}
-use Rattle.form.specs.Refusals.{Refusal, BadPlace}
+use Rattle.form.specs.Refusals.{Refusal}
 use Rattle.form.specs.Readers.{Answer, found, refused, further, at}
 use Rattle.form.specs.Reading.{token}
 use Rattle.form.specs.Spelling.{tag}
 use Rattle.form.specs.Saves.{Walk, then, step, walkF}
-use Rattle.form.specs.Calls.{Cursor, positionOf, gives, refuses, within}
+use Rattle.form.specs.Calls.{Cursor, positionOf, Call, gives, fits}
 use Rattle.form.specs.Keys.{isOpen, isClose, isEqual, Around, atTop, onward, ahead, holds, makesKey, isKey, keptIf, those, keysOf}
 use Rattle.form.specs.Finding.{isPlain, firstPlain, cutBy, firstly, sought, staying, walkAt, finds}
 use Rattle.laws.proofs.Never.{never}
 use Rattle.laws.proofs.Found.{Within, token-in}
 use Rattle.laws.proofs.Elsewhere.{both}
+use Rattle.laws.proofs.Cursors.{fits-true, by-place, within-in}
 use Rattle.laws.proofs.Local.{Begins, begins-front, begins-back, begins-length, token-begins}
 
 -- ---- the plain id
@@ -192,7 +193,8 @@ shown i a (suc k) q (b ∷ s) {p} e = go (token (b ∷ s)) refl (λ v n. shown i
 
 -- ---- the call
 
--- the key at position p stands at a place, and the token that follows it ends at another; all bytes that begin so far give the same answer
+-- the key at position p stands at a place, and the token that follows it ends at another; all bytes that begin so far, and are not too long for
+-- the offset, give the same answer
 pub record NoFurther (i : ℕ) (s : List ℕ) (c : Cursor) (p : ℕ) : Type 0 where
   pub key : ℕ
   pub next : ℕ
@@ -201,30 +203,22 @@ pub record NoFurther (i : ℕ) (s : List ℕ) (c : Cursor) (p : ℕ) : Type 0 wh
   pub position : p ≡ positionOf c key
   pub stands : at token s key ≡ found (Id i) next
   pub followed : at token s next ≡ found follower end
-  pub alike : (t : List ℕ) → Begins end s t → finds i t c ≡ finds i s c
+  pub alike : (t : List ℕ) → fits t c ≡ true → Begins end s t → finds i t c ≡ finds i s c
 
--- what is answered from a place of the input
-answered : (i : ℕ) (s : List ℕ) (c : Cursor) → c .at ≤ length s → finds i s c ≡ staying c (sought i (walkAt s c))
-unfolding finds within
-answered i s c h = rw (le-leb (c .at) (length s) h)
-
--- a position is answered from such a place, of a key
+-- a position is answered from a place of the input, of a key
 given : (i : ℕ) (s : List ℕ) (c : Cursor) {p : ℕ} → finds i s c ≡ gives (some p) c → (c .at ≤ length s) × (firstPlain i (keysOf (walkAt s c)) ≡ some p)
-unfolding finds within staying sought firstly
-given i s c {p} e = go (leb (c .at) (length s)) refl e
+unfolding finds staying sought firstly
+given i s c {p} e =
+    by-place s c (λ (x : Call (Option ℕ)). x ≡ gives (some p) c → (c .at ≤ length s) × (firstPlain i (keysOf (walkAt s c)) ≡ some p))
+    (λ h e. (h .there, of (firstPlain i (keysOf (walkAt s c))) (cutBy (walkAt s c)) e)) (λ _ _ e. never (cc)) (λ _ e. never (cc)) e
   where
     of : (o : Option ℕ) (r : Option Refusal) → staying c (firstly o r) ≡ gives (some p) c → o ≡ some p
     of (some q) r e = cc
     of none (some r) e = cc
     of none none e = cc
 
-    go : (b : Bool) → leb (c .at) (length s) ≡ b → pick b (staying c (sought i (walkAt s c))) (refuses (BadPlace (c .at)) c) ≡ gives (some p) c
-        → (c .at ≤ length s) × (firstPlain i (keysOf (walkAt s c)) ≡ some p)
-    go true h e = (leb-true (c .at) (length s) h, of (firstPlain i (keysOf (walkAt s c))) (cutBy (walkAt s c)) e)
-    go false h e = never (cc)
-
 pub no-further : (i : ℕ) (s : List ℕ) (c : Cursor) {p : ℕ} → finds i s c ≡ gives (some p) c → NoFurther i s c p
-unfolding walkAt keysOf staying sought firstly at further
+unfolding finds walkAt keysOf staying sought firstly at further
 no-further i s c {p} e =
     let g = given i s c e in
     let r = shown i atTop (length s) (positionOf c (c .at)) (drop (c .at) s) (g .1) in
@@ -240,10 +234,10 @@ no-further i s c {p} e =
       position = omega (arith, r .is);
       stands = rw (from, r .stands);
       followed = rw (then, r .followed);
-      alike = λ t b.
+      alike = λ t f b.
           let x : key + r .size + r .more ≡ c .at + (r .key + (r .size + r .more)) = omega arith in
           let d : Begins (c .at + (r .key + (r .size + r .more))) s t = rw x at b in
           let l = begins-length (c .at) s t (g .0) (begins-front (c .at) (r .key + (r .size + r .more)) s t d) in
           let y = r .alike (length t) (drop (c .at) t) (rw length-drop (omega arith)) (begins-back (c .at) (r .key + (r .size + r .more)) s t d) in
-          answered i t c l ∙ rw (y .1) (sym e);
+          within-in t c (record { fitting = fits-true t c f; there = l }) ∙ rw (y .1) (sym e);
     }

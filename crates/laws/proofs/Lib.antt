@@ -19,9 +19,11 @@ pub mod Local
 pub mod Missing
 pub mod Tests
 pub mod ById
+pub mod Cursors
 pub mod FirstKey
 pub mod Seeking
 pub mod SkipSteps
+pub mod Offsets
 pub mod FastAgrees
 pub mod SpelledAnew
 pub mod Normal

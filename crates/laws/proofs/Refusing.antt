@@ -1,7 +1,7 @@
 -- Why a save is refused: for what it holds, and of what the writer refuses for a wide lookup alone. Assumes nothing.
 use Prim.Native.Nat.{ℕ, zero, suc, _+_, _≤_}
 use native.Mathlib.Omega.{arith}
-use mathlib.Core.Path.{_≡_, refl, subst}
+use mathlib.Core.Path.{_≡_, refl, sym, ap, _∙_, subst}
 use mathlib.Core.Bool.{Bool, true, false}
 use mathlib.Core.Option.{Option, none, some}
 use mathlib.Core.List.{List, [], _∷_}
@@ -10,15 +10,16 @@ use lib.ListN.{length, drop, length-drop}
 use lib.Dec.{leb}
 use Rattle.form.specs.Numbers.{pick, Bytes}
 use Rattle.form.specs.Values.{Value}
-use Rattle.form.specs.Refusals.{Refusal, Eof, InvalidRgb, LongString, WideLookup, ReservedId, NoRoom, BufferTooSmall, ReadFailed, BadPlace, TooLong, ListFull, BadIndex, tooShort, badColour, refusalAt}
+use Rattle.form.specs.Refusals.{Refusal, Eof, InvalidRgb, LongString, WideLookup, ReservedId, NoRoom, BufferTooSmall, ReadFailed, BadPlace, TooLong, ListFull, BadIndex, refusalValue, refusalValues, Fault, tooShort, badColour, refusalAt}
 use Rattle.form.specs.Readers.{Answer, found, refused}
 use Rattle.form.specs.Reading.{token}
 use Rattle.form.specs.Spelling.{reason, wide}
-use Rattle.form.specs.Saves.{step, walkF, walk, normal, LIMIT}
+use Rattle.form.specs.Saves.{step, walkF, from, walk, normal, LIMIT}
+use Rattle.form.specs.Finding.{cutBy}
 use Rattle.form.specs.Writing.{written, unwritten, fitted, first, firstRefusal, unless, normalise}
 use Rattle.laws.proofs.Never.{never}
 use Rattle.laws.proofs.LittleEndian.{drop-bytes}
-use Rattle.laws.proofs.Found.{All}
+use Rattle.laws.proofs.Found.{All, Within, token-in}
 use Rattle.laws.proofs.Reasons.{only-wide}
 use Rattle.laws.proofs.Sound.{Sound, token-sound}
 
@@ -88,3 +89,32 @@ never-long room s p b e = ⊎-elim (λ h. h) (⊎-elim (λ h. never (cc)) (λ h.
 
 pub never-reserved : (room : ℕ) (s : List ℕ) (p : ℕ) → Bytes s → normalise room s ≡ unwritten (ReservedId p) → ⊥
 never-reserved room s p b e = ⊎-elim (λ h. h) (⊎-elim (λ h. never (cc)) (λ h. never (cc))) (normaliser-refusal room s (ReservedId p) b e)
+
+-- ---- where a walk is cut
+
+-- the position of a fault's refusal
+value-at : (p : ℕ) (e : Fault) → refusalValue (refusalAt p e) ≡ p
+unfolding refusalAt refusalValue refusalValues
+value-at p (tooShort m) = refl
+value-at p badColour = refl
+
+cut-there : (n k p : ℕ) (s : List ℕ) (q : ℕ) (e : Fault) → p + length s ≤ n → cutBy (walkF k p s) ≡ some (refusalAt q e) → q ≤ n
+unfolding cutBy walkF step
+cut-there n zero p s q e l h = never (cc)
+cut-there n (suc k) p [] q e l h = never (cc)
+cut-there n (suc k) p (b ∷ s) q e l h =
+    go (token (b ∷ s)) (token-in (b ∷ s)) (λ m w. cut-there n k (p + m) (drop m (b ∷ s)) q e (rw length-drop (omega (arith, w .there)))) h
+  where
+    go : (a : Answer Value) → All (λ _ m. Within (b ∷ s) m) a
+        → ((m : ℕ) → Within (b ∷ s) m → cutBy (walkF k (p + m) (drop m (b ∷ s))) ≡ some (refusalAt q e) → q ≤ n)
+        → cutBy (step p a (λ m. walkF k (p + m) (drop m (b ∷ s)))) ≡ some (refusalAt q e) → q ≤ n
+    go (found v m) w ih h = ih m w h
+    go (refused f) w ih h =
+        let z : refusalAt p f ≡ refusalAt q e = cc in
+        let y : p ≡ q = sym (value-at p f) ∙ ap refusalValue z ∙ value-at q e in
+        omega arith
+
+-- the one from a place of the bytes is cut at a place of them
+pub cut-inside : (s : List ℕ) (p q : ℕ) (e : Fault) → p ≤ length s → cutBy (from s p) ≡ some (refusalAt q e) → q ≤ length s
+unfolding from
+cut-inside s p q e l h = cut-there (length s) (length s) p (drop p s) q e (rw length-drop (omega arith)) h

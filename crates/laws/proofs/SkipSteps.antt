@@ -3,18 +3,21 @@ use Prim.Native.Nat.{ℕ, zero, suc, _+_, _-_, _≤_, _<_, zero-le}
 use native.Mathlib.Omega.{arith}
 use native.Mathlib.Nat.{add-zero}
 use mathlib.Core.Path.{_≡_, refl, sym, ap, _∙_}
-use mathlib.Core.Bool.{false}
+use mathlib.Core.Bool.{Bool, true, false}
 use mathlib.Core.List.{List, []}
-use lib.ListN.{length, drop, drop-of-length-le}
-use lib.Dec.{eqb}
+use lib.ListN.{length, drop, length-drop, drop-of-length-le}
+use lib.Dec.{eqb, leb}
 use borrow.Author.Tests.{lt-leb}
+use Rattle.form.specs.Numbers.{pick}
 use Rattle.form.specs.Table.{number, text, colour, after}
+use Rattle.form.specs.Ids.{OPEN, CLOSE}
 use Rattle.form.specs.Refusals.{Fault, tooShort}
 use Rattle.form.specs.Readers.{Answer, found, refused, further, mapped, at}
 use Rattle.form.specs.Reading.{next, num, string, payload}
 use Rattle.form.specs.Values.{Value, Id}
-use Rattle.form.specs.Skipping.{Skip, stopped, stepped, passing, orStop, closed, turned, skipF, skipping}
+use Rattle.form.specs.Skipping.{Skip, past, stopped, stepped, passing, orStop, closed, turned, skipF, skipping, skipContainer, skipValue}
 use Rattle.laws.proofs.Never.{never}
+use Rattle.laws.proofs.Found.{All, payload-in}
 use Rattle.laws.proofs.Lookups.{open-is, close-is}
 use Rattle.laws.proofs.Places.{took, at-giving, num-short, num-there}
 
@@ -118,3 +121,55 @@ turned-up d m go h = rw (open-is, close-is, lt-leb d 1 h)
 pub turned-on : (i d m : ℕ) (go : ℕ → Skip) → eqb i 0x0003 ≡ false → eqb i 0x0004 ≡ false → turned i d m go ≡ go d
 unfolding turned
 turned-on i d m go o c = rw (open-is, close-is, o, c)
+
+-- ---- a skip that is stopped stops at a place of the bytes
+
+abbrev pub StopsBy : ℕ → Skip → Type 0
+StopsBy n (past p) = Unit {0}
+StopsBy n (stopped why p) = p ≤ n
+
+-- what is passed ends within the bytes
+passing-in : (i : ℕ) (s : List ℕ) (p : ℕ) {x : Unit {0}} {m : ℕ} → p ≤ length s → passing i s p ≡ found x m → m ≤ length s
+unfolding passing at further mapped
+passing-in i s p {x} {m} h e = go (payload (stepped i (after i)) (drop p s)) (payload-in (stepped i (after i)) (drop p s)) e
+  where
+    go : (y : Answer Value) → All (λ _ n. n ≤ length (drop p s)) y → mapped (λ _. tt {0}) (further p y) ≡ found x m → m ≤ length s
+    go (found v k) l q = let z : p + k ≡ m = cc in omega (arith, l, length-drop p s)
+    go (refused why) l q = never (cc)
+
+-- a turn goes on within them
+turned-by : (n i d m : ℕ) (go : ℕ → Skip) → ((c : ℕ) → StopsBy n (go c)) → StopsBy n (turned i d m go)
+unfolding turned closed
+turned-by n i d m go h = by (eqb i OPEN) (eqb i CLOSE) (leb d 1)
+  where
+    by : (o c l : Bool) → StopsBy n (pick o (go (d + 1)) (pick c (pick l (past m) (go (d - 1))) (go d)))
+    by true c l = h (d + 1)
+    by false true true = tt
+    by false true false = h (d - 1)
+    by false false l = h d
+
+stop-by : {A : Type 0} (n p : ℕ) (a : Answer A) (f : A → ℕ → Skip) → p ≤ n → ((x : A) (m : ℕ) → a ≡ found x m → StopsBy n (f x m)) → StopsBy n (orStop p a f)
+unfolding orStop
+stop-by n p (found x m) f h g = g x m refl
+stop-by n p (refused why) f h g = h
+
+skip-by : (k d : ℕ) (s : List ℕ) (p : ℕ) → p ≤ length s → StopsBy (length s) (skipF k d s p)
+unfolding skipF
+skip-by zero d s p h = h
+skip-by (suc k) d s p h =
+    stop-by (length s) p (at (num 2) s p) _ h (λ i n e.
+    let a : n ≤ length s = omega (arith, took 2 s p e .next, took 2 s p e .there, length-drop p s) in
+    stop-by (length s) n (passing i s n) _ a (λ v m f.
+    turned-by (length s) i d m _ (λ c. skip-by k c s m (passing-in i s n a f))))
+
+pub container-by : (s : List ℕ) (p : ℕ) → p ≤ length s → StopsBy (length s) (skipContainer s p)
+unfolding skipContainer skipping
+container-by s p h = skip-by (suc (length s)) 1 s p h
+
+pub value-by : (i : ℕ) (s : List ℕ) (p : ℕ) → p ≤ length s → StopsBy (length s) (skipValue i s p)
+unfolding skipValue
+value-by i s p h = by (eqb i OPEN)
+  where
+    by : (o : Bool) → StopsBy (length s) (pick o (skipContainer s p) (orStop p (at (payload (after i)) s p) (λ v n. past n)))
+    by true = container-by s p h
+    by false = stop-by (length s) p (at (payload (after i)) s p) (λ v n. past n) h (λ v n e. tt)

@@ -16,7 +16,7 @@ use Rattle.payload.specs.declared.answers.LexError.the-variants.{Eof, InvalidRg
 use Rattle.payload.specs.declared.answers.Text.{Text}
 use Rattle.payload.proofs.Unique.{colour-one}
 use Rattle.token.specs.declared.Token.{Token}
-use Rattle.lexer.specs.Calls.{cursorOf, refusalOf, u8Call, u16Call, u32Call, u64Call, i32Call, i64Call, boolCall, idCall, stringCall, tokenCall, rgbCall, nextIdCall, peekIdCall, nextTokenCall, peekTokenCall, skipCall, findCall}
+use Rattle.lexer.specs.Calls.{cursorOf, refusalOf, u8Call, u16Call, u32Call, u64Call, i32Call, i64Call, boolCall, idCall, stringCall, tokenCall, rgbCall, nextIdCall, peekIdCall, nextTokenCall, peekTokenCall, positionCall, skipCall, findCall}
 use Rattle.lexer.specs.declared.Lexer.{Lexer}
 use Rattle.lexer.specs.declared.answers.Refusal.{Refusal}
 use Rattle.lexer.specs.declared.answers.Refusal.the-variants.{Lexed, BadPlace}
@@ -52,11 +52,13 @@ use Rattle.lexer.specs.declared.answers.PeekToken.{PeekToken}
 use Rattle.lexer.specs.declared.answers.PeekToken.the-variants as PeekT
 use Rattle.lexer.specs.declared.answers.LexFind.{LexFind}
 use Rattle.lexer.specs.declared.answers.LexFind.the-variants as Find
+use Rattle.lexer.specs.declared.answers.LexPosition.{LexPosition}
+use Rattle.lexer.specs.declared.answers.LexPosition.the-variants as Position
 use Rattle.lexer.specs.declared.answers.LexSkip.{LexSkip}
 use Rattle.lexer.specs.declared.answers.LexSkip.the-variants as Skip
 
 abbrev lexerOf : Cursor → Lexer
-lexerOf c = record { at = c .at }
+lexerOf c = record { at = c .at; offset = c .offset }
 
 pub new-one : {c : Cursor} (r r′ : Lexer) → cursorOf r ≡ c → cursorOf r′ ≡ c → r ≡ r′
 new-one = same cursorOf lexerOf (λ r. refl)
@@ -217,6 +219,17 @@ peek-token-back c (PeekT.Refused e) = ap PeekT.Refused (refusal-back e)
 
 pub peek-token-one : (c : Lexer) {a : Call (Option Token)} (r r′ : PeekToken) → peekTokenCall c r ≡ a → peekTokenCall c r′ ≡ a → r ≡ r′
 peek-token-one c = same (peekTokenCall c) peekTokenBack (peek-token-back c)
+
+abbrev positionBack : Call ℕ → LexPosition
+positionBack (gives p c) = Position.Got p
+positionBack (refuses e c) = Position.Refused (refusalBack e)
+
+position-back : (c : Lexer) (r : LexPosition) → positionBack (positionCall c r) ≡ r
+position-back c (Position.Got p) = refl
+position-back c (Position.Refused e) = ap Position.Refused (refusal-back e)
+
+pub position-one : (c : Lexer) {a : Call ℕ} (r r′ : LexPosition) → positionCall c r ≡ a → positionCall c r′ ≡ a → r ≡ r′
+position-one c = same (positionCall c) positionBack (position-back c)
 
 abbrev findBack : Call (Option ℕ) → LexFind
 findBack (gives (some p) c) = Find.Found p

@@ -1,5 +1,6 @@
 -- What the calls of the code stand for.
-use Prim.Native.Nat.{ℕ, _-_}
+use Prim.Native.Nat.{ℕ, _-_, _≤_}
+use mathlib.Core.Path.{_≡_}
 use mathlib.Core.Bool.{Bool, not}
 use mathlib.Core.Option.{Option, none, some}
 use mathlib.Core.List.{List, []}
@@ -8,15 +9,18 @@ use lib.Dec.{eqb}
 use lib.IntN.{ℤ}
 use mir.Syntax.{w32, w64}
 use mir.Val.{toZ}
+use Rattle.form.specs.Numbers.{MAX}
 use Rattle.form.specs.Refusals as F
 use Rattle.form.specs.Values.{Value}
 use Rattle.form.specs.Readers.{ByPlace, at, mapped, placed}
 use Rattle.form.specs.Reading.{next, num, string}
-use Rattle.form.specs.Calls.{Cursor, Call, gives, refuses, within}
+use Rattle.form.specs.Calls.{Cursor, cursorIn, positionOf, Call, gives, refuses, within}
 use Rattle.payload.specs.Answers.{faultOf, textOf, colourOf}
 use Rattle.payload.specs.declared.answers.Text.{Text}
 use Rattle.payload.specs.Texts as Texts
 use Rattle.token.specs.declared.Token.{Token}
+use Rattle.skip.specs.declared.Skipped.{Skipped}
+use Rattle.skip.specs.declared.Skipped.the-variants.{To, Refused as Stopped}
 use Rattle.lexer.specs.declared.Lexer.{Lexer}
 use Rattle.lexer.specs.declared.answers.Refusal.{Refusal}
 use Rattle.lexer.specs.declared.answers.Refusal.the-variants.{Lexed, BadPlace}
@@ -54,11 +58,13 @@ use Rattle.lexer.specs.declared.answers.PeekToken.{PeekToken}
 use Rattle.lexer.specs.declared.answers.PeekToken.the-variants as PeekT
 use Rattle.lexer.specs.declared.answers.LexFind.{LexFind}
 use Rattle.lexer.specs.declared.answers.LexFind.the-variants as Find
+use Rattle.lexer.specs.declared.answers.LexPosition.{LexPosition}
+use Rattle.lexer.specs.declared.answers.LexPosition.the-variants as Position
 use Rattle.lexer.specs.declared.answers.LexSkip.{LexSkip}
 use Rattle.lexer.specs.declared.answers.LexSkip.the-variants as Skip
 
 abbrev pub cursorOf : Lexer → Cursor
-cursorOf c = record { at = c .at }
+cursorOf c = cursorIn (c .offset) (c .at)
 
 unfoldable pub refusalOf : Refusal → F.Refusal
 refusalOf (Lexed e) = F.refusalAt (e .position) (faultOf (e .kind))
@@ -94,6 +100,10 @@ refusedCall c e = refuses (refusalOf e) (cursorOf c)
 abbrev pub placeCall : Lexer → Place → Call (Unit {0})
 placeCall c Inside = gives tt (cursorOf c)
 placeCall c (Outside e) = refuses (refusalOf e) (cursorOf c)
+
+abbrev pub positionCall : Lexer → LexPosition → Call ℕ
+positionCall c (Position.Got p) = gives p (cursorOf c)
+positionCall c (Position.Refused e) = refuses (refusalOf e) (cursorOf c)
 
 abbrev pub u8Call : Lexer → LexU8 → Call ℕ
 u8Call c (U8.Got x d) = gives x (cursorOf d)
@@ -168,6 +178,17 @@ findCall c (Find.Refused e) = refuses (refusalOf e) (cursorOf c)
 abbrev pub skipCall : LexSkip → Call (Unit {0})
 skipCall (Skip.Done d) = gives tt (cursorOf d)
 skipCall (Skip.Refused e d) = refuses (refusalOf e) (cursorOf d)
+
+-- ---- what the calls' inner functions ask for: that there is a position to tell
+
+-- no call from the cursor is refused for where it stands
+abbrev pub Stands : Lexer → List ℕ → Type 0
+Stands c s = _≡_ {A = Call (Unit {0})} (gives tt (cursorOf c)) (within s (cursorOf c) (gives tt (cursorOf c)))
+
+-- the place where a skip stopped has one
+abbrev pub Lands : Lexer → Skipped → Type 0
+Lands c (To n) = Unit {0}
+Lands c (Stopped e n) = positionOf (cursorOf c) n ≤ MAX
 
 -- ---- the part of the bytes that a call gives the place of; none where it is refused
 

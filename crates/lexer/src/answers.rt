@@ -36,7 +36,7 @@ impl LexerError {
     }
 }
 
-// Why a call is refused: the read is, or the cursor is past the input.
+// Why a call is refused: the read is, or the offset is too large or the cursor past the input.
 pub enum Refusal {
     Lexed(LexerError),
     BadPlace(usize),
@@ -120,6 +120,12 @@ pub enum PeekId {
 pub enum PeekToken {
     Got(Token),
     Nothing,
+    Refused(Refusal),
+}
+
+// The cursor's position in the file.
+pub enum LexPosition {
+    Got(usize),
     Refused(Refusal),
 }
 

@@ -1,7 +1,7 @@
 // Finding a key, from the cursor on.
 ghost use mathlib.Core.Path.{_≡_};
 ghost use Rattle.form.specs.Finding.{sought, staying, walkAt, finds};
-ghost use Rattle.lexer.specs.Calls.{cursorOf, findCall};
+ghost use Rattle.lexer.specs.Calls.{cursorOf, findCall, Stands};
 use crate::Lexer;
 use crate::Place;
 use crate::answers::LexFind;
@@ -12,12 +12,13 @@ use lexeme::LexemeId;
 impl Lexer {
     // The walk from the cursor on, up to the token after the key.
     fn walk(self, bytes: &[u8], id: LexemeId) -> LexFind
+        requires { ⌜ Stands self (now bytes) ⌝ }
         ensures { λ r. ⌜ findCall self r ≡ staying (cursorOf self) (sought (id .0) (walkAt (now (bytes .entry)) (cursorOf self))) ⌝ }
     {
         let wanted = Wanted::Plain(id);
         let next = keys::next_key(bytes, self.at, wanted);
         match next {
-            Next::Key(at, _) => LexFind::Found(self.moved(at).position()),
+            Next::Key(at, _) => LexFind::Found(self.moved(at).position_in_file()),
             Next::End => LexFind::Absent,
             Next::Refused(e, at) => LexFind::Refused(self.moved(at).located(e)),
         }

@@ -35,6 +35,9 @@ impl Lexer {
     pub fn read_id(self, bytes: &[u8]) -> LexId
         ensures { λ r. ⌜ idCall self r ≡ reads (readAt (num 2)) (now (bytes .entry)) (cursorOf self) ⌝ }
     {
+        if !self.fits(bytes) {
+            return LexId::Refused(Refusal::BadPlace(self.offset));
+        }
         let at = self.at;
         let r = payload::read_id(bytes, at);
         let ReadId::Got(x, next) = r else {
@@ -47,12 +50,11 @@ impl Lexer {
     pub fn next_id(self, bytes: &[u8]) -> NextId
         ensures { λ r. ⌜ nextIdCall self r ≡ nexts (readAt (num 2)) (now (bytes .entry)) (cursorOf self) ⌝ }
     {
-        let at = self.at;
         let r = self.read_id(bytes);
         match r {
             LexId::Got(x, next) => NextId::Got(x, next),
             LexId::Refused(e) => {
-                if at == bytes.len() {
+                if self.ends(bytes) {
                     NextId::Nothing
                 } else {
                     NextId::Refused(e)
@@ -79,6 +81,9 @@ impl Lexer {
     pub fn read_string(self, bytes: &[u8]) -> LexString
         ensures { λ r. ⌜ stringCall self r ≡ reads stringAt (now (bytes .entry)) (cursorOf self) ⌝ }
     {
+        if !self.fits(bytes) {
+            return LexString::Refused(Refusal::BadPlace(self.offset));
+        }
         let at = self.at;
         let r = payload::read_string(bytes, at);
         let ReadString::Got(x, next) = r else {
@@ -91,6 +96,9 @@ impl Lexer {
     pub fn read_bool(self, bytes: &[u8]) -> LexBool
         ensures { λ r. ⌜ boolCall self r ≡ reads boolAt (now (bytes .entry)) (cursorOf self) ⌝ }
     {
+        if !self.fits(bytes) {
+            return LexBool::Refused(Refusal::BadPlace(self.offset));
+        }
         let at = self.at;
         let r = payload::read_bool(bytes, at);
         let ReadBool::Got(x, next) = r else {
@@ -103,6 +111,9 @@ impl Lexer {
     pub fn read_lookup_u8(self, bytes: &[u8]) -> LexU8
         ensures { λ r. ⌜ u8Call self r ≡ reads (readAt (num 1)) (now (bytes .entry)) (cursorOf self) ⌝ }
     {
+        if !self.fits(bytes) {
+            return LexU8::Refused(Refusal::BadPlace(self.offset));
+        }
         let at = self.at;
         let r = payload::read_lookup_u8(bytes, at);
         let ReadU8::Got(x, next) = r else {
@@ -115,6 +126,9 @@ impl Lexer {
     pub fn read_lookup_u16(self, bytes: &[u8]) -> LexU16
         ensures { λ r. ⌜ u16Call self r ≡ reads (readAt (num 2)) (now (bytes .entry)) (cursorOf self) ⌝ }
     {
+        if !self.fits(bytes) {
+            return LexU16::Refused(Refusal::BadPlace(self.offset));
+        }
         let at = self.at;
         let r = payload::read_lookup_u16(bytes, at);
         let ReadU16::Got(x, next) = r else {
@@ -127,6 +141,9 @@ impl Lexer {
     pub fn read_lookup_u24(self, bytes: &[u8]) -> LexU32
         ensures { λ r. ⌜ u32Call self r ≡ reads (readAt (num 3)) (now (bytes .entry)) (cursorOf self) ⌝ }
     {
+        if !self.fits(bytes) {
+            return LexU32::Refused(Refusal::BadPlace(self.offset));
+        }
         let at = self.at;
         let r = payload::read_lookup_u24(bytes, at);
         let ReadU32::Got(x, next) = r else {
@@ -146,6 +163,9 @@ impl Lexer {
     pub fn read_u32(self, bytes: &[u8]) -> LexU32
         ensures { λ r. ⌜ u32Call self r ≡ reads (readAt (num 4)) (now (bytes .entry)) (cursorOf self) ⌝ }
     {
+        if !self.fits(bytes) {
+            return LexU32::Refused(Refusal::BadPlace(self.offset));
+        }
         let at = self.at;
         let r = payload::read_u32(bytes, at);
         let ReadU32::Got(x, next) = r else {
@@ -158,6 +178,9 @@ impl Lexer {
     pub fn read_u64(self, bytes: &[u8]) -> LexU64
         ensures { λ r. ⌜ u64Call self r ≡ reads (readAt (num 8)) (now (bytes .entry)) (cursorOf self) ⌝ }
     {
+        if !self.fits(bytes) {
+            return LexU64::Refused(Refusal::BadPlace(self.offset));
+        }
         let at = self.at;
         let r = payload::read_u64(bytes, at);
         let ReadU64::Got(x, next) = r else {
@@ -170,6 +193,9 @@ impl Lexer {
     pub fn read_i64(self, bytes: &[u8]) -> LexI64
         ensures { λ r. ⌜ i64Call self r ≡ reads i64At (now (bytes .entry)) (cursorOf self) ⌝ }
     {
+        if !self.fits(bytes) {
+            return LexI64::Refused(Refusal::BadPlace(self.offset));
+        }
         let at = self.at;
         let r = payload::read_i64(bytes, at);
         let ReadI64::Got(x, next) = r else {
@@ -182,6 +208,9 @@ impl Lexer {
     pub fn read_i32(self, bytes: &[u8]) -> LexI32
         ensures { λ r. ⌜ i32Call self r ≡ reads i32At (now (bytes .entry)) (cursorOf self) ⌝ }
     {
+        if !self.fits(bytes) {
+            return LexI32::Refused(Refusal::BadPlace(self.offset));
+        }
         let at = self.at;
         let r = payload::read_i32(bytes, at);
         let ReadI32::Got(x, next) = r else {
@@ -208,6 +237,9 @@ impl Lexer {
     pub fn read_rgb(self, bytes: &[u8]) -> LexRgb
         ensures { λ r. ⌜ rgbCall self r ≡ reads (readAt rgb) (now (bytes .entry)) (cursorOf self) ⌝ }
     {
+        if !self.fits(bytes) {
+            return LexRgb::Refused(Refusal::BadPlace(self.offset));
+        }
         let at = self.at;
         let r = payload::read_rgb(bytes, at);
         let ReadRgb::Got(x, next) = r else {

@@ -3,7 +3,7 @@ ghost use mathlib.Core.Path.{_≡_};
 ghost use Rattle.form.specs.Skipping.{skipContainer, skipValue};
 ghost use Rattle.form.specs.Calls.{landed, skips};
 ghost use Rattle.skip.specs.Skips.{skipAnswer};
-ghost use Rattle.lexer.specs.Calls.{cursorOf, skipCall};
+ghost use Rattle.lexer.specs.Calls.{cursorOf, skipCall, Lands};
 use crate::Lexer;
 use crate::Place;
 use crate::answers::LexSkip;
@@ -13,6 +13,7 @@ use skip::Skipped;
 impl Lexer {
     // The end of a skip from the cursor.
     fn land(self, s: Skipped) -> LexSkip
+        requires { ⌜ Lands self s ⌝ }
         ensures { λ r. ⌜ skipCall r ≡ landed (cursorOf self) (skipAnswer s) ⌝ }
     {
         match s {

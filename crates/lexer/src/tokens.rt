@@ -15,6 +15,9 @@ impl Lexer {
     pub fn read_token(self, bytes: &[u8]) -> LexToken
         ensures { λ r. ⌜ tokenCall self r ≡ reads tokenAt (now (bytes .entry)) (cursorOf self) ⌝ }
     {
+        if !self.fits(bytes) {
+            return LexToken::Refused(Refusal::BadPlace(self.offset));
+        }
         let at = self.at;
         let r = token::read_token(bytes, at);
         let ReadToken::Got(next, x) = r else {
@@ -27,12 +30,11 @@ impl Lexer {
     pub fn next_token(self, bytes: &[u8]) -> NextToken
         ensures { λ r. ⌜ nextTokenCall self r ≡ nexts tokenAt (now (bytes .entry)) (cursorOf self) ⌝ }
     {
-        let at = self.at;
         let r = self.read_token(bytes);
         match r {
             LexToken::Got(x, next) => NextToken::Got(x, next),
             LexToken::Refused(e) => {
-                if at == bytes.len() {
+                if self.ends(bytes) {
                     NextToken::Nothing
                 } else {
                     NextToken::Refused(e)

@@ -1,8 +1,8 @@
-// A line: twelve numbers and bytes in hex, with single spaces between them. The numbers are the call, its cursor, what else it is given,
-// the code of its answer and the eight words. The bytes are the input, or the input, a slash and what the call leaves in the bytes that it
-// is lent; a dash stands for none. A line that begins with # is a comment.
+// A line: thirteen numbers and bytes in hex, with single spaces between them. The numbers are the call, its cursor, the input's offset, what
+// else it is given, the code of its answer and the eight words. The bytes are the input, or the input, a slash and what the call leaves in
+// the bytes that it is lent; a dash stands for none. A line that begins with # is a comment.
 
-pub const NUMBERS: usize = 12;
+pub const NUMBERS: usize = 13;
 
 // Of the input and the output together.
 pub const LONGEST: usize = 1280;

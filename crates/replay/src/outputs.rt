@@ -69,14 +69,14 @@ fn write(bytes: &[u8], kind: usize, out: &mut [u8], answer: &mut [u64], shortest
 
 pub(crate) fn word(bytes: &[u8], at: usize) -> u64 {
     let mut answer = [0u64; 8];
-    lexing::stivlaheim_read_u64(bytes, at, &mut answer);
+    lexing::stivlaheim_read_u64(bytes, at, 0, &mut answer);
     answer[1]
 }
 
 // A number of four bytes, lowest byte first.
 pub(crate) fn number(bytes: &[u8], at: usize) -> u32 {
     let mut answer = [0u64; 8];
-    lexing::stivlaheim_read_u32(bytes, at, &mut answer);
+    lexing::stivlaheim_read_u32(bytes, at, 0, &mut answer);
     (answer[1] % 0x1_0000_0000) as u32
 }
 

@@ -15,6 +15,7 @@ pub struct Tally {
     pub sources: u64,
     pub finds: u64,
     pub contents: u64,
+    pub positions: u64,
     pub unreadable: u64,
     pub answers: u64,
     pub different: u64,
@@ -35,6 +36,7 @@ impl Tally {
             sources: 0,
             finds: 0,
             contents: 0,
+            positions: 0,
             unreadable: 0,
             answers: 0,
             different: 0,
@@ -75,6 +77,7 @@ impl Tally {
             49..=50 => t.writes = more(t.writes),
             51 => t.finds = more(t.finds),
             52..=55 => t.contents = more(t.contents),
+            56 => t.positions = more(t.positions),
             _ => t.unreadable = more(t.unreadable),
         }
         t
@@ -92,6 +95,7 @@ impl Tally {
         print(b", sources ", self.sources);
         print(b", finds ", self.finds);
         print(b", contents ", self.contents);
+        print(b", positions ", self.positions);
         print(b", unreadable ", self.unreadable);
         print(b"\n", self.answers);
         print(b" answers replayed, ", self.different);

@@ -163,11 +163,11 @@ pub fn stivlaheim_bench_measured(side: Side, task: Task, bytes: &[u8], lent: &mu
         (Side::Port, Task::Read) | (Side::Original, Task::ContentsToCount) => {
             port::answer(|words| port::count_tokens(bytes, words))
         }
-        (Side::Port, Task::Skip) => port::answer(|words| port::lex(bytes, 0, Call::SkipContainer, words)),
+        (Side::Port, Task::Skip) => port::answer(|words| port::lex(bytes, 0, 0, Call::SkipContainer, words)),
         (Side::Port, Task::Normalise) => port::answer(|words| port::respell(Spelling::Normal, bytes, out, words)),
         (Side::Port, Task::Shorten) => port::answer(|words| port::respell(Spelling::Shortest, bytes, out, words)),
         (Side::Port, Task::Fast) => port_steps(bytes),
-        (Side::Port, Task::Find) => port::answer(|words| port::find_key(bytes, 0, last_key(bytes), words)),
+        (Side::Port, Task::Find) => port::answer(|words| port::find_key(bytes, 0, 0, last_key(bytes), words)),
         (Side::Port, Task::Contents | Task::ContentsToCount) => {
             port::answer(|words| port::contents(bytes, list.as_flattened_mut(), words))
         }

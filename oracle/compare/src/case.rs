@@ -21,6 +21,12 @@ pub trait Case: Sized {
 
     fn port(&self) -> Self::Seen;
 
+    /// Whether it is asked at another offset than 0.
+    #[inline]
+    fn is_in_file(&self) -> bool {
+        false
+    }
+
     fn listed(&self) -> Option<Listed> {
         None
     }

@@ -1,11 +1,13 @@
 //! Where the port differs from the original on purpose.
 
+use crate::offsets::Placed;
 use crate::run::Run;
 use crate::subjects::{Fast, Lex, Sequence, Text, Write};
 use protocol::{Call, Numbers, Op, Source, Spelling, Token, code};
 
 #[derive(Clone, Copy, Debug, PartialEq, Eq)]
 pub enum Listed {
+    OffsetTooLarge,
     CursorPastInput,
     TextPastInput,
     BadTextPlace,
@@ -18,7 +20,8 @@ pub enum Listed {
 }
 
 impl Listed {
-    pub const ALL: [Listed; 9] = [
+    pub const ALL: [Listed; 10] = [
+        Listed::OffsetTooLarge,
         Listed::CursorPastInput,
         Listed::TextPastInput,
         Listed::BadTextPlace,
@@ -33,6 +36,7 @@ impl Listed {
     /// As docs/DIFFERENCES.md has it.
     pub fn name(self) -> &'static str {
         match self {
+            Listed::OffsetTooLarge => "offset-too-large",
             Listed::CursorPastInput => "cursor-past-input",
             Listed::TextPastInput => "text-past-input",
             Listed::BadTextPlace => "bad-text-place",
@@ -43,6 +47,15 @@ impl Listed {
             Listed::ShortWindow => "short-window",
             Listed::BadSourceState => "bad-source-state",
         }
+    }
+
+    /// The one behind a cursor that does not fit; the offset is looked at first.
+    #[inline]
+    pub fn of_cursor(bytes: &[u8], at: usize, offset: usize) -> Option<Listed> {
+        if offset > usize::MAX - bytes.len() {
+            return Some(Listed::OffsetTooLarge);
+        }
+        (at > bytes.len()).then_some(Listed::CursorPastInput)
     }
 
     /// The one behind an answer that has an output.
@@ -59,6 +72,7 @@ impl Listed {
 
     fn why(self) -> &'static str {
         match self {
+            Listed::OffsetTooLarge => "the original's input is the whole file",
             Listed::CursorPastInput => "the original's cursor is the rest of its slice and cannot be past it",
             Listed::TextPastInput => "the original's token holds its text and cannot name bytes that are not there",
             Listed::BadTextPlace => "the original's token holds its text and is always written",
@@ -77,6 +91,7 @@ pub fn show(run: &mut Run) {
     for listed in Listed::ALL {
         println!("listed difference {}: {}", listed.name(), listed.why());
         match listed {
+            Listed::OffsetTooLarge => run.show(listed, &Lex::new(&[1, 2], 9, Call::ReadId).at_offset(usize::MAX - 1)),
             Listed::CursorPastInput => run.show(listed, &Lex::new(&[1, 2], 9, Call::ReadId)),
             Listed::TextPastInput => run.show(listed, &Text::new(&[1, 2], 1, 2)),
             Listed::BadTextPlace => {

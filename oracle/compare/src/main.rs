@@ -7,6 +7,7 @@ mod dump;
 mod keys;
 mod lent;
 mod listed;
+mod offsets;
 mod record;
 mod respelled;
 mod run;

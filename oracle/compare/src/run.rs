@@ -11,6 +11,7 @@ use std::thread::{available_parallelism, scope};
 pub struct Run {
     counts: Counts,
     listed: [u64; Listed::ALL.len()],
+    in_file: u64,
     different: Counts,
     progress: bool,
 }
@@ -20,6 +21,7 @@ impl Run {
         Run {
             counts: Counts::default(),
             listed: [0; Listed::ALL.len()],
+            in_file: 0,
             different: Counts::default(),
             progress: stderr().is_terminal(),
         }
@@ -33,6 +35,9 @@ impl Run {
         }
         if let Some(listed) = case.listed() {
             self.listed[listed as usize] += calls;
+        }
+        if case.is_in_file() {
+            self.in_file += calls;
         }
         if case.differs() {
             self.differ(case);
@@ -90,6 +95,7 @@ impl Run {
     fn add(&mut self, other: &Run) {
         self.counts.add_all(&other.counts);
         self.different.add_all(&other.different);
+        self.in_file += other.in_file;
         for (count, more) in self.listed.iter_mut().zip(other.listed) {
             *count += more;
         }
@@ -111,6 +117,7 @@ impl Run {
             println!("{count:>12} {name}");
         }
         println!("{:>12} in all", self.counts.total());
+        println!("{:>12} of them: at another offset than 0", self.in_file);
         for listed in Listed::ALL {
             println!("{:>12} of them: listed difference {}", self.listed[listed as usize], listed.name());
         }

@@ -51,6 +51,12 @@ pub fn zeroed(bytes: &[u8]) -> impl Iterator<Item = Vec<u8>> {
     })
 }
 
+/// Where an input begins that so much is cut out of: where it did, and where it ends as it did.
+pub fn begun(offset: usize, cut: usize) -> impl Iterator<Item = usize> {
+    let later = offset.checked_add(cut).filter(|_| offset > 0);
+    [Some(offset), later].into_iter().flatten()
+}
+
 pub fn less(number: usize) -> impl Iterator<Item = usize> {
     [0, number / 2, number.saturating_sub(1)].into_iter().filter(move |smaller| *smaller < number)
 }

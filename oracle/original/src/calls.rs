@@ -237,7 +237,7 @@ fn value(lexer: &mut Lexer, bytes: &[u8], call: Call) -> Result<Option<Value>, L
         Call::SkipValue(id) => nothing(lexer.skip_value(LexemeId::new(id))?),
         Call::SkipContainer => nothing(lexer.skip_value(LexemeId::OPEN)?),
         Call::Remainder => words(&part(bytes, lexer.remainder())),
-        Call::Position => words(&[]),
+        Call::Position => one(lexer.position() as u64),
     }))
 }
 

@@ -6,6 +6,7 @@
 mod calls;
 mod counted;
 mod missing;
+mod offset;
 mod requests;
 mod shims;
 mod write;
@@ -15,6 +16,7 @@ use shims::{Error, ReaderError, ReaderErrorKind, decode_windows1252};
 pub use binary::reader::fast::{FAST_WINDOW, Fast, next_token_fast, step_fast};
 pub use calls::{contents, count_tokens, find_key, is_id, kind, lex, skip_container, split, text};
 pub use counted::LARGEST_COUNT;
+pub use offset::{find_key as find_key_in_file, fits, grown, lex as lex_in_file};
 pub use requests::answer_request;
 pub use scalar::Scalar;
 pub use source::window::{Window, has_op};

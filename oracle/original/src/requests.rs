@@ -1,6 +1,6 @@
 //! The original's answers to requests.
 
-use crate::{FAST_WINDOW, Window, calls, next_token_fast, write};
+use crate::{FAST_WINDOW, Window, calls, next_token_fast, offset, write};
 use protocol::{
     Answer, Op, Request, Source, Spelling, UNTOUCHED, code, contents_line, fast_line, find_line, kind_line, lex_line,
     output_line, source_line, split_line,
@@ -14,8 +14,11 @@ pub fn answer_request(request: &Request) -> Option<String> {
     match request {
         Request::Kind(id) => Some(kind_line(calls::kind(*id), calls::is_id(*id))),
         Request::Split { bytes, count } => Some(split_line(bytes, &calls::split(bytes, *count)?)),
-        Request::Lex { bytes, at, call } => Some(lex_line(bytes, *call, &calls::lex(bytes, *at, *call)?)),
-        Request::Find { bytes, at, id } => Some(find_line(&calls::find_key(bytes, *at, *id)?)),
+        Request::Lex { bytes, at, offset, call } => {
+            let answer = offset::lex(bytes, *at, *offset, *call)?;
+            Some(lex_line(bytes, *call, &answer, *offset as u64 + answer.words[0]))
+        }
+        Request::Find { bytes, at, offset, id } => Some(find_line(&offset::find_key(bytes, *at, *offset, *id)?)),
         Request::Write { spelling: Spelling::Normal, room, token } => {
             let mut out = vec![0; *room];
             let count = write(&token.token()?, &mut out)?;

@@ -1,21 +1,28 @@
 //! Ids and kinds, the Lexer's calls, a token's text, and the count of a whole save's tokens.
 
-use protocol::{Call, code};
+use protocol::Call;
 
 macro_rules! plain_calls {
     ($($call:ident $name:ident,)*) => {
         unsafe extern "C" {
-            $(fn $name(bytes: *const u8, len: usize, at: usize, answer: *mut u64, answer_len: usize) -> u32;)*
+            $(fn $name(
+                bytes: *const u8,
+                len: usize,
+                at: usize,
+                offset: usize,
+                answer: *mut u64,
+                answer_len: usize,
+            ) -> u32;)*
         }
 
         /// A call that takes no number beside the cursor.
-        fn plain(call: Call, bytes: &[u8], at: usize, answer: &mut [u64]) -> u32 {
+        fn plain(call: Call, bytes: &[u8], at: usize, offset: usize, answer: &mut [u64]) -> u32 {
             let function = match call {
                 $(Call::$call => $name,)*
-                Call::Position | Call::ReadBytes(_) | Call::SkipValue(_) => unreachable!("{call} is not plain"),
+                Call::ReadBytes(_) | Call::SkipValue(_) => unreachable!("{call} is not plain"),
             };
             // SAFETY: both slices live through the call, and the lent one is apart from the other.
-            unsafe { function(bytes.as_ptr(), bytes.len(), at, answer.as_mut_ptr(), answer.len()) }
+            unsafe { function(bytes.as_ptr(), bytes.len(), at, offset, answer.as_mut_ptr(), answer.len()) }
         }
     };
 }
@@ -42,6 +49,7 @@ plain_calls! {
     ReadRgb stivlaheim_read_rgb,
     SkipContainer stivlaheim_skip_container,
     Remainder stivlaheim_remainder,
+    Position stivlaheim_position,
 }
 
 unsafe extern "C" {
@@ -51,6 +59,7 @@ unsafe extern "C" {
         bytes: *const u8,
         len: usize,
         at: usize,
+        offset: usize,
         count: usize,
         answer: *mut u64,
         answer_len: usize,
@@ -59,6 +68,7 @@ unsafe extern "C" {
         bytes: *const u8,
         len: usize,
         at: usize,
+        offset: usize,
         id: u16,
         answer: *mut u64,
         answer_len: usize,
@@ -67,6 +77,7 @@ unsafe extern "C" {
         bytes: *const u8,
         len: usize,
         at: usize,
+        offset: usize,
         id: u16,
         answer: *mut u64,
         answer_len: usize,
@@ -90,30 +101,21 @@ pub fn is_id(id: u16) -> bool {
     stivlaheim_is_id(id)
 }
 
-pub fn lex(bytes: &[u8], at: usize, call: Call, answer: &mut [u64]) -> u32 {
+/// From the cursor at a place, in an input that begins at an offset.
+pub fn lex(bytes: &[u8], at: usize, offset: usize, call: Call, answer: &mut [u64]) -> u32 {
     let (data, len, words, count) = (bytes.as_ptr(), bytes.len(), answer.as_mut_ptr(), answer.len());
     match call {
         // SAFETY: both slices live through the call, and the lent one is apart from the other.
-        Call::ReadBytes(n) => unsafe { stivlaheim_read_bytes(data, len, at, n, words, count) },
+        Call::ReadBytes(n) => unsafe { stivlaheim_read_bytes(data, len, at, offset, n, words, count) },
         // SAFETY: the same.
-        Call::SkipValue(id) => unsafe { stivlaheim_skip_value(data, len, at, id, words, count) },
-        Call::Position => position(bytes, at, answer),
-        _ => plain(call, bytes, at, answer),
+        Call::SkipValue(id) => unsafe { stivlaheim_skip_value(data, len, at, offset, id, words, count) },
+        _ => plain(call, bytes, at, offset, answer),
     }
 }
 
-/// No function of its own: the cursor of `remainder`, without the part.
-fn position(bytes: &[u8], at: usize, answer: &mut [u64]) -> u32 {
-    let code = plain(Call::Remainder, bytes, at, answer);
-    if code == code::ANSWERED {
-        answer[1..].fill(0);
-    }
-    code
-}
-
-pub fn find_key(bytes: &[u8], at: usize, id: u16, answer: &mut [u64]) -> u32 {
+pub fn find_key(bytes: &[u8], at: usize, offset: usize, id: u16, answer: &mut [u64]) -> u32 {
     // SAFETY: both slices live through the call, and the lent one is apart from the other.
-    unsafe { stivlaheim_find_key(bytes.as_ptr(), bytes.len(), at, id, answer.as_mut_ptr(), answer.len()) }
+    unsafe { stivlaheim_find_key(bytes.as_ptr(), bytes.len(), at, offset, id, answer.as_mut_ptr(), answer.len()) }
 }
 
 pub fn text(bytes: &[u8], start: usize, len: usize, answer: &mut [u64]) -> u32 {

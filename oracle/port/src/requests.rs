@@ -6,7 +6,7 @@ use crate::{
     next_token_fast, respell, split, write,
 };
 use protocol::{
-    Answer, Got, Handed, Op, Request, Source, UNTOUCHED, code, contents_line, dump_line, fast_line, find_line,
+    Answer, Call, Got, Handed, Op, Request, Source, UNTOUCHED, code, contents_line, dump_line, fast_line, find_line,
     kind_line, lex_line, output_line, search_line, source_line, split_line,
 };
 
@@ -17,8 +17,13 @@ pub fn answer_request(request: &Request) -> String {
     match request {
         Request::Kind(id) => kind_line(kind(*id), is_id(*id)),
         Request::Split { bytes, count } => split_line(bytes, &answer(|words| split(bytes, *count, words))),
-        Request::Lex { bytes, at, call } => lex_line(bytes, *call, &answer(|words| lex(bytes, *at, *call, words))),
-        Request::Find { bytes, at, id } => find_line(&answer(|words| find_key(bytes, *at, *id, words))),
+        Request::Lex { bytes, at, offset, call } => {
+            let answer = answer(|words| lex(bytes, *at, *offset, *call, words));
+            lex_line(bytes, *call, &answer, position(bytes, *offset, &answer))
+        }
+        Request::Find { bytes, at, offset, id } => {
+            find_line(&answer(|words| find_key(bytes, *at, *offset, *id, words)))
+        }
         Request::Write { spelling, room, token: Handed { kind, words, bytes } } => {
             let (answer, out) = lending(*room, |out, answer| write(*spelling, bytes, *kind, words, out, answer));
             output_line(&answer, &out)
@@ -44,6 +49,11 @@ pub fn answer_request(request: &Request) -> String {
         }
         Request::Source { source, ops } => source_lines(source, ops),
     }
+}
+
+/// Where the cursor that an answer leaves stands in the file.
+fn position(bytes: &[u8], offset: usize, left: &Answer) -> u64 {
+    answer(|words| lex(bytes, left.words[0] as usize, offset, Call::Position, words)).words[1]
 }
 
 fn lending(room: usize, call: impl FnOnce(&mut [u8], &mut [u64]) -> u32) -> (Answer, Vec<u8>) {

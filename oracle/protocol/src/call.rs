@@ -68,7 +68,7 @@ calls! {
     ReadRgb read_rgb Colour,
     SkipContainer skip_container Nothing,
     Remainder remainder Part,
-    Position position Nothing,
+    Position position Number,
 }
 
 impl std::fmt::Display for Call {

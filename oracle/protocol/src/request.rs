@@ -15,8 +15,8 @@ const MOST_RECORDS: usize = LONGEST_BUFFER / size_of::<Span>();
 pub enum Request {
     Kind(u16),
     Split { bytes: Vec<u8>, count: usize },
-    Lex { bytes: Vec<u8>, at: usize, call: Call },
-    Find { bytes: Vec<u8>, at: usize, id: u16 },
+    Lex { bytes: Vec<u8>, at: usize, offset: usize, call: Call },
+    Find { bytes: Vec<u8>, at: usize, offset: usize, id: u16 },
     Write { spelling: Spelling, room: usize, token: Handed },
     Dump { bytes: Vec<u8> },
     Save { spelling: Spelling, room: usize, bytes: Vec<u8> },
@@ -114,8 +114,9 @@ fn simple(words: &mut Words) -> Option<Request> {
     Some(match words.word()? {
         "kind" => Request::Kind(words.id()?),
         "split" => Request::Split { bytes: words.bytes()?, count: words.number()? },
-        "lex" => Request::Lex { bytes: words.bytes()?, at: words.number()?, call: call(words)? },
-        "find" => Request::Find { bytes: words.bytes()?, at: words.number()?, id: words.id()? },
+        "at" => in_file(words)?,
+        "lex" => lex(words, 0)?,
+        "find" => find(words, 0)?,
         "write" => write(words, Spelling::Normal)?,
         "shortest" => write(words, Spelling::Shortest)?,
         "dump" => Request::Dump { bytes: words.bytes()? },
@@ -128,6 +129,24 @@ fn simple(words: &mut Words) -> Option<Request> {
         "fast" => Request::Fast { held: words.array()?, window: words.bytes()? },
         _ => return None,
     })
+}
+
+/// Of an input that begins at an offset.
+fn in_file(words: &mut Words) -> Option<Request> {
+    let offset = words.number()?;
+    match words.word()? {
+        "lex" => lex(words, offset),
+        "find" => find(words, offset),
+        _ => None,
+    }
+}
+
+fn lex(words: &mut Words, offset: usize) -> Option<Request> {
+    Some(Request::Lex { offset, bytes: words.bytes()?, at: words.number()?, call: call(words)? })
+}
+
+fn find(words: &mut Words, offset: usize) -> Option<Request> {
+    Some(Request::Find { offset, bytes: words.bytes()?, at: words.number()?, id: words.id()? })
 }
 
 fn write(words: &mut Words, spelling: Spelling) -> Option<Request> {

@@ -16,17 +16,19 @@ pub fn split_line(bytes: &[u8], answer: &Answer) -> String {
     }
 }
 
-pub fn lex_line(bytes: &[u8], call: Call, answer: &Answer) -> String {
-    let [at, refused, ..] = answer.words;
+/// With the position in the file of the cursor that is left.
+pub fn lex_line(bytes: &[u8], call: Call, answer: &Answer, position: u64) -> String {
+    let refused = answer.words[1];
     match answer.code {
+        code::ANSWERED if call == Call::Position => format!("ok at {}", answer.words[1]),
         code::ANSWERED => {
             let value = value(bytes, call.shape(), answer.value());
             let space = if value.is_empty() { "" } else { " " };
-            format!("ok{space}{value} at {at}")
+            format!("ok{space}{value} at {position}")
         }
-        code::NONE => format!("none at {at}"),
+        code::NONE => format!("none at {position}"),
         code::BAD_PLACE => format!("badplace {refused}"),
-        _ => format!("err {} at {at}", refused_words(answer)),
+        _ => format!("err {} at {position}", refused_words(answer)),
     }
 }
 

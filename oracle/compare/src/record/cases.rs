@@ -1,7 +1,8 @@
 //! What is asked: every call, kind, refusal and id, in few bytes.
 
 use super::sample::{LONGEST, Sample};
-use crate::stages::{plain_calls, specimen_requests};
+use crate::offsets::Placed;
+use crate::stages::specimen_requests;
 use crate::subjects::{Count, Kind, Lex, Split, Text};
 use protocol::{Call, Request, code};
 use saves::ids::{CLOSE, OPEN, RGB, TEXTS};
@@ -31,8 +32,8 @@ pub fn all(sample: &mut Sample, seed: u64) {
 fn specimens(sample: &mut Sample) {
     for (_, request) in specimen_requests() {
         match request {
-            Request::Lex { bytes, at, call } => {
-                sample.add(&Lex::new(&bytes, at, call));
+            Request::Lex { bytes, at, offset, call } => {
+                sample.add(&Lex::new(&bytes, at, call).at_offset(offset));
                 sample.add(&Count::new(&bytes));
             }
             Request::Kind(id) => sample.add(&Kind(id)),
@@ -72,7 +73,7 @@ fn parts(sample: &mut Sample) {
             sample.add(&Lex::new(&bytes, start, Call::ReadBytes(len)));
         }
     }
-    for call in plain_calls().chain([Call::SkipValue(OPEN)]) {
+    for call in Call::PLAIN.iter().copied().chain([Call::SkipValue(OPEN)]) {
         for at in [8, 9, 10, usize::MAX] {
             sample.add(&Lex::new(&bytes, at, call));
         }
@@ -84,7 +85,7 @@ fn patterns(sample: &mut Sample) {
     let steps: Vec<u8> = (1..=9).collect();
     let lowest = [0, 0, 0, 0x80, 0, 0, 0, 0x80, 0];
     let highest = [0xff, 0xff, 0xff, 0x7f, 0xff, 0xff, 0xff, 0x7f, 0xff];
-    for call in plain_calls() {
+    for call in Call::PLAIN.iter().copied() {
         for bytes in [[0; 9], [0xff; 9], lowest, highest, *b"\x03\0text\0\0\0"] {
             sample.add(&Lex::new(&bytes, 0, call));
         }
@@ -178,7 +179,7 @@ fn nesting(sample: &mut Sample) {
 fn places(sample: &mut Sample, rng: &mut Rng) {
     let bytes = small(rng, Flavour::Mixture, 24);
     for at in 0..=bytes.len() + 1 {
-        for call in plain_calls().chain([Call::ReadBytes(5), Call::SkipValue(rng.pick(&RESERVED))]) {
+        for call in Call::PLAIN.iter().copied().chain([Call::ReadBytes(5), Call::SkipValue(rng.pick(&RESERVED))]) {
             sample.add(&Lex::new(&bytes, at, call));
         }
     }
@@ -231,7 +232,7 @@ fn noise(sample: &mut Sample, rng: &mut Rng) {
         };
         let at = if rng.one_in(3) { 0 } else { rng.below(bytes.len() + 1) };
         let count = rng.below(bytes.len() - at + 3);
-        for call in plain_calls().chain([Call::ReadBytes(count), Call::SkipValue(rng.pick(&RESERVED))]) {
+        for call in Call::PLAIN.iter().copied().chain([Call::ReadBytes(count), Call::SkipValue(rng.pick(&RESERVED))]) {
             sample.add(&Lex::new(&bytes, at, call));
         }
         sample.add(&Count::new(&bytes));

@@ -138,14 +138,14 @@ fn fill(sample: &mut Sample, origin: Origin, bytes: &[u8], numbers: usize) {
     let seen = Fill::new(origin, bytes, numbers).expected();
     let answer = seen.seen.answer();
     let filled = if answer.code == code::ANSWERED { 2 * answer.words[0] as usize } else { 0 };
-    let entry = Entry { call: origin.name(), at: numbers, arg: 0, answer, bytes };
+    let entry = Entry { call: origin.name(), at: numbers, offset: 0, arg: 0, answer, bytes };
     sample.add_output(&entry, &low_first(&seen.lent()[..filled]));
 }
 
 fn search(sample: &mut Sample, numbers: &[u32], position: u64) {
     let case = Search::new(numbers, position);
     let (call, at, answer) = (case.name(), position as usize, case.expected().answer());
-    sample.add_entry(&Entry { call, at, arg: 0, answer, bytes: &low_first(numbers) });
+    sample.add_entry(&Entry { call, at, offset: 0, arg: 0, answer, bytes: &low_first(numbers) });
 }
 
 fn write(sample: &mut Sample, numbers: &[u32], room: usize) {
@@ -153,7 +153,7 @@ fn write(sample: &mut Sample, numbers: &[u32], room: usize) {
     let seen = case.expected();
     let answer = seen.seen.answer();
     let written = if answer.code == code::ANSWERED { answer.words[0] as usize } else { 0 };
-    let entry = Entry { call: case.name(), at: room, arg: 0, answer, bytes: &low_first(numbers) };
+    let entry = Entry { call: case.name(), at: room, offset: 0, arg: 0, answer, bytes: &low_first(numbers) };
     sample.add_output(&entry, &seen.lent()[..written]);
 }
 

@@ -5,7 +5,7 @@ use protocol::{Answer, hex};
 use std::fmt::{Display, Formatter, Result};
 
 /// The calls by their numbers, from 1. The replay has the same table, so that a new call goes to the end.
-pub const CALLS: [&str; 55] = [
+pub const CALLS: [&str; 56] = [
     "into_kind",
     "is_id",
     "get_split",
@@ -61,12 +61,14 @@ pub const CALLS: [&str; 55] = [
     "contents_search",
     "contents_write",
     "contents_read",
+    "position",
 ];
 
 /// A question with the answer that is expected, without the end of its line.
 pub struct Entry<'a> {
     pub call: &'static str,
     pub at: usize,
+    pub offset: usize,
     pub arg: usize,
     pub answer: Answer,
     pub bytes: &'a [u8],
@@ -86,7 +88,8 @@ impl Entry<'_> {
 
 impl Display for Entry<'_> {
     fn fmt(&self, f: &mut Formatter<'_>) -> Result {
-        write!(f, "{} {} {} {}", self.index() + 1, self.at, self.arg, self.answer.code)?;
+        let Entry { at, offset, arg, .. } = self;
+        write!(f, "{} {at} {offset} {arg} {}", self.index() + 1, self.answer.code)?;
         for word in self.answer.words {
             write!(f, " {word}")?;
         }

@@ -177,7 +177,7 @@ fn step(sample: &mut Sample, held: &[u8], window: &[u8]) {
     let seen = Fast::new(held, window).expected();
     let answer = answer(&seen);
     let bytes = [held, window].concat();
-    let entry = Entry { call: "next_token_fast", at: held.len(), arg: 0, answer, bytes: &bytes };
+    let entry = Entry { call: "next_token_fast", at: held.len(), offset: 0, arg: 0, answer, bytes: &bytes };
     sample.add_output(&entry, seen.lent());
 }
 
@@ -189,7 +189,7 @@ fn rooms(need: usize) -> impl Iterator<Item = usize> {
 fn add(sample: &mut Sample, call: &'static str, [at, arg]: [usize; 2], seen: &SeenLent, bytes: &[u8]) {
     let answer = answer(seen);
     let written = if answer.code == code::ANSWERED { answer.words[0] as usize } else { 0 };
-    sample.add_output(&Entry { call, at, arg, answer, bytes }, &seen.lent()[..written]);
+    sample.add_output(&Entry { call, at, offset: 0, arg, answer, bytes }, &seen.lent()[..written]);
 }
 
 /// Words that are left alone are the largest number, which the replay lends.

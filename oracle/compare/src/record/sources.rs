@@ -179,7 +179,10 @@ fn add(
     assert!(schedule.len() <= ENTRIES, "{} entries", schedule.len());
     let entries: Vec<u8> = schedule.iter().flat_map(|entry| entry.to_le_bytes()).collect();
     let bytes = [&left(buffer, words), &[schedule.len() as u8][..], &entries, supply].concat();
-    sample.add_output(&Entry { call, at: buffer.len(), arg: count.unwrap_or(0), answer, bytes: &bytes }, output);
+    sample.add_output(
+        &Entry { call, at: buffer.len(), offset: 0, arg: count.unwrap_or(0), answer, bytes: &bytes },
+        output,
+    );
 }
 
 /// A buffer, and behind it a state's words.

@@ -1,6 +1,7 @@
 //! Sizes at which something could turn.
 
 use super::sweep::{TOKENS, along, every_call};
+use crate::offsets::at_each;
 use crate::run::Run;
 use crate::subjects::{Count, Lex, Text};
 use protocol::Call;
@@ -25,9 +26,9 @@ fn texts(run: &mut Run) {
             for cut in 0..=2.min(input.len() - 4) {
                 let input = &input[..input.len() - cut];
                 for at in [0, 2, 4, input.len() - 1, input.len(), input.len() + 1] {
-                    every_call(run, input, at);
+                    every_call(run, input, at, at_each);
                 }
-                run.check(&Lex::new(input, 2, Call::SkipValue(id)));
+                at_each(run, &Lex::new(input, 2, Call::SkipValue(id)));
             }
         }
     }
@@ -40,8 +41,8 @@ fn nesting(run: &mut Run) {
         for closes in [depth - 1, depth, depth + 1, depth + 2] {
             let input = [opens.as_slice(), &[4, 0].repeat(closes)].concat();
             for at in [0, 2, 2 * depth - 2, 2 * depth, input.len() - 1] {
-                run.check(&Lex::new(&input, at, Call::SkipContainer));
-                run.check(&Lex::new(&input, at, Call::SkipValue(3)));
+                at_each(run, &Lex::new(&input, at, Call::SkipContainer));
+                at_each(run, &Lex::new(&input, at, Call::SkipValue(3)));
             }
             run.check(&Count::new(&input));
         }
@@ -55,7 +56,7 @@ fn parts(run: &mut Run) {
     for start in ends {
         for len in ends {
             run.check(&Text::new(&bytes, start, len));
-            run.check(&Lex::new(&bytes, start, Call::ReadBytes(len)));
+            at_each(run, &Lex::new(&bytes, start, Call::ReadBytes(len)));
         }
     }
 }
@@ -65,12 +66,12 @@ fn large(run: &mut Run, rng: &mut Rng, flavour: Flavour) {
     let mut bytes = save(Plan { flavour, size: 200_000, longest_text: 70_000 }, rng);
     run.check(&Count::new(&bytes));
     bytes.extend([4, 0, 4, 0]);
-    along(run, &bytes);
+    along(run, &bytes, at_each);
     for _ in 0..60 {
         let at = rng.below(bytes.len() + 2);
         for call in TOKENS {
-            run.check(&Lex::new(&bytes, at, call));
+            at_each(run, &Lex::new(&bytes, at, call));
         }
     }
-    run.check(&Lex::new(&bytes, 0, Call::SkipContainer));
+    at_each(run, &Lex::new(&bytes, 0, Call::SkipContainer));
 }

@@ -2,6 +2,7 @@
 
 use super::sweep::{TOKENS, every_call, tokens_at_every_place};
 use super::whole::one_save;
+use crate::offsets::at_some;
 use crate::run::Run;
 use crate::subjects::{Count, Kind, Lex, Sequence, Split};
 use original::LARGEST_COUNT;
@@ -51,7 +52,7 @@ fn each_from(run: &mut Run, bytes: &mut Vec<u8>, longest: usize, check: fn(&mut 
 
 fn at_the_start_of_three(run: &mut Run, bytes: &[u8]) {
     if bytes.len() == THREE {
-        every_call(run, bytes, 0);
+        every_call(run, bytes, 0, at_some);
         run.check(&Count::new(bytes));
     }
 }
@@ -59,7 +60,7 @@ fn at_the_start_of_three(run: &mut Run, bytes: &[u8]) {
 /// Every call at every place, and the input as a whole save and as a source.
 fn short_input(run: &mut Run, bytes: &[u8]) {
     for at in 0..=bytes.len() + 1 {
-        every_call(run, bytes, at);
+        every_call(run, bytes, at, at_some);
     }
     run.check(&Count::new(bytes));
     one_save(run, bytes);
@@ -90,9 +91,9 @@ pub fn all_ids(run: &mut Run) {
 
 fn one_id(run: &mut Run, input: &[u8], id: u16) {
     for call in TOKENS.into_iter().chain([Call::ReadId, Call::NextId, Call::PeekId]) {
-        run.check(&Lex::new(input, 0, call));
+        at_some(run, &Lex::new(input, 0, call));
     }
-    run.check(&Lex::new(input, 2, Call::SkipValue(id)));
+    at_some(run, &Lex::new(input, 2, Call::SkipValue(id)));
     run.check(&Count::new(input));
 }
 

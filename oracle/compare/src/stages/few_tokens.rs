@@ -3,6 +3,7 @@
 
 use super::contents::{every_position, filled};
 use super::whole::one_dump;
+use crate::offsets::at_some;
 use crate::run::Run;
 use crate::subjects::Find;
 
@@ -45,10 +46,10 @@ fn one(run: &mut Run, bytes: &[u8]) {
     every_position(run, bytes);
     for id in IDS {
         for at in 0..=bytes.len() + 1 {
-            run.check(&Find::new(bytes, at, id));
+            at_some(run, &Find::new(bytes, at, id));
         }
         for len in 0..bytes.len() {
-            run.check(&Find::new(&bytes[..len], 0, id));
+            at_some(run, &Find::new(&bytes[..len], 0, id));
         }
     }
 }

@@ -1,5 +1,6 @@
 //! The first key of every id, from every cursor, in saves whole, cut and damaged.
 
+use crate::offsets::{at_each, at_some};
 use crate::run::Run;
 use crate::subjects::Find;
 use saves::{Flavour, Plan, RESERVED, Rng, bad_colour, flip, random_bytes, random_ids, save_of_a_build};
@@ -29,7 +30,7 @@ fn one_id(run: &mut Run, id: u16, bytes: &[u8]) {
     let cursors = if near { 0..=bytes.len() + 1 } else { 0..=2 };
     for at in cursors {
         for sought in [id, id ^ 1] {
-            run.check(&Find::new(bytes, at, sought));
+            at_some(run, &Find::new(bytes, at, sought));
         }
     }
 }
@@ -54,7 +55,7 @@ fn small(rng: &mut Rng, flavour: Flavour) -> Vec<u8> {
 }
 
 /// Also past the end.
-fn every_cursor(run: &mut Run, bytes: &[u8]) {
+pub fn every_cursor(run: &mut Run, bytes: &[u8]) {
     for at in (0..=bytes.len() + 2).chain([usize::MAX]) {
         every_key(run, bytes, at);
     }
@@ -89,18 +90,18 @@ fn middling(run: &mut Run, rng: &mut Rng, flavour: Flavour) {
 fn some_keys(run: &mut Run, rng: &mut Rng, bytes: &[u8]) {
     let ids = ids(bytes, 0);
     for _ in 0..ids.len().min(8) {
-        run.check(&Find::new(bytes, 0, ids[rng.below(ids.len())]));
-        run.check(&Find::new(bytes, rng.below(bytes.len() + 1), ids[rng.below(ids.len())]));
+        at_some(run, &Find::new(bytes, 0, ids[rng.below(ids.len())]));
+        at_some(run, &Find::new(bytes, rng.below(bytes.len() + 1), ids[rng.below(ids.len())]));
     }
 }
 
 /// Every id that a token from there on begins with, the reserved ones too, and some that none does.
 fn every_key(run: &mut Run, bytes: &[u8], at: usize) {
     for id in ids(bytes, at) {
-        run.check(&Find::new(bytes, at, id));
+        at_each(run, &Find::new(bytes, at, id));
     }
     for id in [0, 0x2801, RESERVED[at.wrapping_add(bytes.len()) % RESERVED.len()]] {
-        run.check(&Find::new(bytes, at, id));
+        at_each(run, &Find::new(bytes, at, id));
     }
 }
 

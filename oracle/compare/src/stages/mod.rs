@@ -26,6 +26,5 @@ pub use programs::programs;
 pub use short_lists::short_lists;
 pub use source::sources;
 pub use specimens::{specimen_requests, specimens};
-pub use sweep::plain_calls;
 pub use whole::whole;
 pub use writing::{FEW_VALUES, of_number, writing};

@@ -1,23 +1,23 @@
 //! Every function with an answer list that is too short.
 
-use super::sweep::plain_calls;
 use crate::case::Case;
 use crate::lent::Lend;
+use crate::offsets::{Placed, offsets};
 use crate::run::Run;
 use crate::subjects::{Count, Fast, Fill, Find, Form, Lex, Origin, Search, Short, Split, Text, Whole, Write, Written};
 use protocol::{Call, Spelling, WORDS};
 
 pub fn short_lists(run: &mut Run) {
     let bytes = [0x14, 0, 1, 2, 3, 4, 5, 6, 7, 8];
-    for call in plain_calls().chain([Call::ReadBytes(1), Call::SkipValue(0x14)]) {
+    for call in Call::PLAIN.iter().copied().chain([Call::ReadBytes(1), Call::SkipValue(0x14)]) {
         for at in [0, 9, 10, 11] {
-            too_short(run, &Lex::new(&bytes, at, call));
+            each_too_short(run, &Lex::new(&bytes, at, call));
         }
     }
     too_short(run, &Split { bytes: bytes.to_vec(), count: 2 });
     too_short(run, &Text::new(&bytes, 1, 2));
     for at in [0, 4, 11] {
-        too_short(run, &Find::new(&bytes, at, 0x2801));
+        each_too_short(run, &Find::new(&bytes, at, 0x2801));
     }
     too_short(run, &Count::new(&bytes));
     for room in [0, 5, 60] {
@@ -52,6 +52,14 @@ fn contents(run: &mut Run) {
         for position in [0, 4] {
             too_short(run, &Search::new(list, position));
         }
+    }
+}
+
+/// At 0, and at the other offsets.
+fn each_too_short<C: Placed + Lend>(run: &mut Run, case: &C) {
+    too_short(run, case);
+    for offset in offsets(case.len()) {
+        too_short(run, &case.at_offset(offset));
     }
 }
 

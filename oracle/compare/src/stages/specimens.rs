@@ -1,12 +1,14 @@
 //! FORMAT.md's specimens, with its words for their answers.
 
+use super::finding::every_cursor;
 use super::sweep::every_place;
 use crate::case::Case;
 use crate::dump::dump;
 use crate::lent::SeenLent;
+use crate::offsets::{at_each, bad_place};
 use crate::run::Run;
 use crate::subjects::{Fill, Form, Origin, Search, Whole, Write, Written};
-use protocol::{Request, output_line, search_line};
+use protocol::{Request, find_line, output_line, search_line};
 
 /// Request and answer, one specimen a line.
 const SPECIMENS: &str = include_str!("specimens.txt");
@@ -79,15 +81,28 @@ fn original_line(request: &Request) -> String {
             read.line(&read.expected())
         }
         Request::Dump { bytes } => dump(bytes).trim_end().replace('\n', " | "),
-        _ => original::answer_request(request).expect("the original has the call"),
+        _ => original::answer_request(request).unwrap_or_else(|| refused_line(request)),
     }
+}
+
+/// A cursor where the original cannot stand.
+fn refused_line(request: &Request) -> String {
+    let refused = match request {
+        Request::Lex { bytes, at, offset, .. } | Request::Find { bytes, at, offset, .. } => {
+            bad_place(bytes, *at, *offset)
+        }
+        _ => None,
+    };
+    find_line(&refused.expect("the original has the call"))
 }
 
 pub fn specimens(run: &mut Run) {
     for specimen in all() {
         run.check(&specimen);
-        if let Request::Lex { bytes, .. } = &specimen.request {
-            every_place(run, bytes);
+        match &specimen.request {
+            Request::Lex { bytes, .. } => every_place(run, bytes, at_each),
+            Request::Find { bytes, .. } => every_cursor(run, bytes),
+            _ => {}
         }
     }
 }

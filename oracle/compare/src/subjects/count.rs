@@ -50,6 +50,6 @@ impl Case for Count<'_> {
 
 impl Recorded for Count<'_> {
     fn entries(&self) -> Vec<Entry<'_>> {
-        vec![Entry { call: self.name(), at: 0, arg: 0, answer: self.expected().answer(), bytes: &self.0 }]
+        vec![Entry { call: self.name(), at: 0, offset: 0, arg: 0, answer: self.expected().answer(), bytes: &self.0 }]
     }
 }

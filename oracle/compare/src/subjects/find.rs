@@ -3,30 +3,46 @@
 use crate::case::{Ask, Case, Seen};
 use crate::keys::keys;
 use crate::listed::Listed;
+use crate::offsets::{Placed, bad_place, in_file, turn};
 use crate::record::{Entry, Recorded};
-use crate::shrink::{cuts, less, moved, without, zeroed};
+use crate::shrink::{begun, cuts, less, moved, without, zeroed};
 use protocol::{Answer, Token, code, find_line, hex};
 use std::borrow::Cow;
 
 pub struct Find<'a> {
     bytes: Cow<'a, [u8]>,
     at: usize,
+    offset: usize,
     id: u16,
 }
 
 impl<'a> Find<'a> {
     pub fn new(bytes: &'a [u8], at: usize, id: u16) -> Find<'a> {
-        Find { bytes: Cow::Borrowed(bytes), at, id }
+        Find { bytes: Cow::Borrowed(bytes), at, offset: 0, id }
     }
 
     fn with(&self, bytes: Vec<u8>, at: usize) -> Find<'a> {
-        Find { bytes: Cow::Owned(bytes), at, id: self.id }
+        Find { bytes: Cow::Owned(bytes), at, ..*self }
+    }
+}
+
+impl<'a> Placed for Find<'a> {
+    fn len(&self) -> usize {
+        self.bytes.len()
+    }
+
+    fn turn(&self) -> usize {
+        turn(&self.bytes, self.at).wrapping_add(self.id.into())
+    }
+
+    fn at_offset(&self, offset: usize) -> Find<'a> {
+        Find { bytes: self.bytes.clone(), offset, ..*self }
     }
 }
 
 impl Ask for Find<'_> {
     fn ask(&self, answer: &mut [u64]) -> u32 {
-        port::find_key(&self.bytes, self.at, self.id, answer)
+        port::find_key(&self.bytes, self.at, self.offset, self.id, answer)
     }
 }
 
@@ -39,11 +55,11 @@ impl Case for Find<'_> {
 
     /// Of the keys before the first refusal the first that is the id; otherwise the refusal; otherwise none.
     fn expected(&self) -> Seen {
-        let Find { bytes, at, id } = self;
-        let Some(rest) = bytes.get(*at..) else {
-            return Answer::refused(code::BAD_PLACE, *at, *at).into();
-        };
-        let (tokens, end) = original::tokens(rest);
+        let Find { bytes, at, offset, id } = self;
+        if let Some(refused) = bad_place(bytes, *at, *offset) {
+            return refused.into();
+        }
+        let (tokens, end) = original::tokens(&bytes[*at..]);
         let key = keys(&tokens).find(|(_, token)| *token == Token::Id(*id));
         let answer = match key {
             Some((place, _)) => Answer::found(*at, &[(at + place) as u64]),
@@ -54,26 +70,34 @@ impl Case for Find<'_> {
                 refused
             }
         };
-        answer.into()
+        original::grown(answer, *offset, true).into()
     }
 
     fn port(&self) -> Seen {
         Seen::port(self)
     }
 
+    fn is_in_file(&self) -> bool {
+        self.offset > 0
+    }
+
     fn listed(&self) -> Option<Listed> {
-        (self.at > self.bytes.len()).then_some(Listed::CursorPastInput)
+        Listed::of_cursor(&self.bytes, self.at, self.offset)
     }
 
     fn smaller(&self) -> impl Iterator<Item = Self> {
-        let shorter = cuts(self.bytes.len()).map(|cut| self.with(without(&self.bytes, &cut), moved(self.at, &cut)));
+        let shorter = cuts(self.bytes.len()).flat_map(|cut| {
+            let shorter = self.with(without(&self.bytes, &cut), moved(self.at, &cut));
+            begun(self.offset, cut.len()).map(move |offset| shorter.at_offset(offset))
+        });
         let earlier = less(self.at).map(|at| self.with(self.bytes.to_vec(), at));
+        let sooner = less(self.offset).map(|offset| self.at_offset(offset));
         let plainer = zeroed(&self.bytes).map(|bytes| self.with(bytes, self.at));
-        shorter.chain(earlier).chain(plainer)
+        shorter.chain(earlier).chain(sooner).chain(plainer)
     }
 
     fn request(&self) -> String {
-        format!("find {} {} {:#06x}", hex(&self.bytes), self.at, self.id)
+        format!("{}find {} {} {:#06x}", in_file(self.offset), hex(&self.bytes), self.at, self.id)
     }
 
     fn show(&self, seen: &Seen) -> String {
@@ -84,6 +108,7 @@ impl Case for Find<'_> {
 impl Recorded for Find<'_> {
     fn entries(&self) -> Vec<Entry<'_>> {
         let answer = self.expected().answer();
-        vec![Entry { call: self.name(), at: self.at, arg: self.id.into(), answer, bytes: &self.bytes }]
+        let (call, arg) = (self.name(), self.id.into());
+        vec![Entry { call, at: self.at, offset: self.offset, arg, answer, bytes: &self.bytes }]
     }
 }

@@ -39,7 +39,7 @@ impl Recorded for Kind {
         let (kind, is_id) = self.expected();
         let entry = |call, code| {
             let answer = Answer { code, words: [0; WORDS] };
-            Entry { call, at: 0, arg: self.0.into(), answer, bytes: &[] }
+            Entry { call, at: 0, offset: 0, arg: self.0.into(), answer, bytes: &[] }
         };
         vec![entry("into_kind", kind), entry("is_id", is_id.into())]
     }

@@ -50,6 +50,6 @@ impl Case for Split {
 impl Recorded for Split {
     fn entries(&self) -> Vec<Entry<'_>> {
         let answer = self.expected().answer();
-        vec![Entry { call: self.name(), at: 0, arg: self.count, answer, bytes: &self.bytes }]
+        vec![Entry { call: self.name(), at: 0, offset: 0, arg: self.count, answer, bytes: &self.bytes }]
     }
 }

@@ -72,6 +72,6 @@ impl Case for Text<'_> {
 impl Recorded for Text<'_> {
     fn entries(&self) -> Vec<Entry<'_>> {
         let answer = self.expected().answer();
-        vec![Entry { call: self.name(), at: self.start, arg: self.len, answer, bytes: &self.bytes }]
+        vec![Entry { call: self.name(), at: self.start, offset: 0, arg: self.len, answer, bytes: &self.bytes }]
     }
 }

@@ -1,9 +1,12 @@
 -- `lexer::Lexer::land` meets its contract. Assumes nothing.
 use borrow.Author.Needs.{needs}
 use Rattle.form.specs.Calls.{landed}
-use Rattle.lexer.proofs.Endings.{land-cut}
+use Rattle.lexer.proofs.Endings.{stopped-lands, land-cut}
 use Rattle.lexer.proofs.Lexer.land.Statement.{statement}
 use Rattle.lexer.proofs.Lexer.land.Tie as tie
+
+located-requires : tie.Need-located-requires
+located-requires c κs = stopped-lands _ (c .before .before .before .before .pre) (c .before .before .s2 .given .1) (c .moved2 .ensures)
 
 returns : tie.Need-returns
 unfolding landed
@@ -20,6 +23,6 @@ land-spec =
     (λ c κs. search needs)
     (λ c. search needs)
     (λ c κs. search needs)
-    (λ c κs. search needs)
+    located-requires
     returns
     returns-2)

@@ -9,7 +9,7 @@ use Rattle.lexer.proofs.Lexer.located.Tie as tie
 
 returns : tie.Need-returns
 unfolding refusalOf
-returns c = ap (λ p. refusalAt p (faultOf (c .before .args .e))) (c .position .ensures)
+returns c = ap (λ p. refusalAt p (faultOf (c .before .args .e))) (c .position-in-file .ensures)
 
 pub located-spec : {M : Type 1} → statement M
 located-spec = tie.close (tie.spec (λ c κs. search needs) returns)

@@ -4,24 +4,31 @@ use mathlib.Core.Path.{refl}
 use Rattle.form.specs.Calls.{reads}
 use Rattle.payload.specs.Answers.{textAnswer}
 use Rattle.payload.proofs.LetElse.{gotOf, lackOf}
-use Rattle.lexer.specs.Calls.{placeCall, bytesAt}
-use Rattle.lexer.proofs.Endings.{told, inside, outside, inside-got, inside-cut}
+use Rattle.lexer.specs.Calls.{bytesAt}
+use Rattle.lexer.proofs.Endings.{told-inside, told-outside, stands, inside-got, inside-cut}
 use Rattle.lexer.proofs.Lexer.read_bytes.Statement.{statement}
 use Rattle.lexer.proofs.Lexer.read_bytes.Tie as tie
 
+located-requires : tie.Need-located-requires
+located-requires c κs =
+    let k = c .before .before .before .before in
+    stands _ _ (told-inside _ _ (k .before .before .place .ensures) (k .enum-told .given .1))
+
 returns : tie.Need-returns
 returns c =
-    let h = inside _ _ (told (placeCall _) (c .before .before .before .before .before .before .before .place .ensures) (c .before .before .before .before .before .enum-told .given .1)) in
-    inside-cut (bytesAt _) _ _ h (lackOf textAnswer (c .before .before .before .before .read-bytes .ensures) (c .before .before .enum-told2 .given .1) (c .before .missing .ensures) refl) (c .located .ensures)
+    let k = c .before .before .before .before in
+    let h = told-inside _ _ (k .before .before .before .place .ensures) (k .before .enum-told .given .1) in
+    inside-cut (bytesAt _) _ _ h (lackOf textAnswer (k .read-bytes .ensures) (c .before .before .enum-told2 .given .1) (c .before .missing .ensures) refl) (c .located .ensures)
 
 returns-2 : tie.Need-returns-2
 returns-2 c =
-    let h = inside _ _ (told (placeCall _) (c .before .before .before .before .before .before .before .place .ensures) (c .before .before .before .before .before .enum-told .given .1)) in
-    inside-got (bytesAt _) _ _ h (gotOf textAnswer (c .before .before .before .before .read-bytes .ensures) (c .before .before .r .given .1)) (c .moved .ensures)
+    let k = c .before .before .before .before in
+    let h = told-inside _ _ (k .before .before .before .place .ensures) (k .before .enum-told .given .1) in
+    inside-got (bytesAt _) _ _ h (gotOf textAnswer (k .read-bytes .ensures) (c .before .before .r .given .1)) (c .moved .ensures)
 
 returns-3 : tie.Need-returns-3
 unfolding reads
-returns-3 c = outside _ _ (told (placeCall _) (c .before .before .before .place .ensures) (c .before .p .given .1)) _
+returns-3 c = told-outside _ _ (c .before .before .before .place .ensures) (c .before .p .given .1) _
 
 pub read-bytes-spec : {M : Type 1} → statement M
 read-bytes-spec =
@@ -33,7 +40,7 @@ read-bytes-spec =
     (λ c. search needs)
     (λ c. search needs)
     (λ c κs. search needs)
-    (λ c κs. search needs)
+    located-requires
     returns
     (λ c κs. search needs)
     (λ c. search needs)
