@@ -1,16 +1,20 @@
 /*
  * Prints the tokens of a save, and writes its normal form and its shortest spelling; or prints where a key stands; or lists the save's
- * entries, or the one that holds a position. C99 and C++ alike; examples/check compiles it as both, and runs it.
+ * entries, or the one that holds a position; or writes what can be rescued of a clipped save. C99 and C++ alike; examples/check compiles it as
+ * both, and runs it.
  *
  *     tokens SAVE [NORMAL-FORM [SHORTEST]]
  *     tokens --key ID SAVE [HEADER]
  *     tokens --contents SAVE [POSITION]
+ *     tokens --rescue SAVE OUTPUT
  *
  * A line for each token: its position, its kind, its value. A text stands in quotes, with the bytes that are not printable ASCII, and quotes
  * and backslashes, as \xNN. A float is its bytes in hex, the lowest first. Of a key: its position, or `none`. HEADER is how many bytes of the
  * file stand before the save's first, 0 if it is not given; the position is that in the file. A line START-END for each entry: where its key
- * stands, and the place after its last byte; of a position the number of its entry, from 0, and START-END, or `none`. The exit status is 0 if all is
- * well; 1 if the save is refused, and standard error has the refusal; 2 if something cannot be read or written.
+ * stands, and the place after its last byte; of a position the number of its entry, from 0, and START-END, or `none`. Of a rescued save a line
+ * `cut C strays S closes K`: the bytes cut off at its end, the Closes left out since they answer no Open, and those added for containers that
+ * were open. The exit status is 0 if all is well; 1 if the save is refused, and standard error has the refusal; 2 if something cannot be read or
+ * written.
  */
 #include <errno.h>
 #include <inttypes.h>
@@ -42,7 +46,8 @@ static int printed(const char *what, int status) {
 }
 
 static int usage(void) {
-    fputs("tokens SAVE [NORMAL-FORM [SHORTEST]], tokens --key ID SAVE [HEADER], or tokens --contents SAVE [POSITION]\n", stderr);
+    fputs("tokens SAVE [NORMAL-FORM [SHORTEST]], tokens --key ID SAVE [HEADER], tokens --contents SAVE [POSITION], or tokens --rescue SAVE OUTPUT\n",
+          stderr);
     return FAILED;
 }
 
@@ -193,7 +198,7 @@ static int print_tokens(const struct save *save) {
     return printed("the tokens", status);
 }
 
-/* ---- the save, spelled anew */
+/* ---- the save, written anew */
 
 static int write_file(const char *name, const uint8_t *bytes, size_t len) {
     FILE *file = fopen(name, "wb");
@@ -207,14 +212,13 @@ static int write_file(const char *name, const uint8_t *bytes, size_t len) {
     return WELL;
 }
 
-/* stivlaheim_normalise or stivlaheim_shorten */
-typedef uint32_t spelling(const uint8_t *bytes, size_t bytes_len, uint8_t *out, size_t out_len, uint64_t *answer, size_t answer_len);
+/* stivlaheim_normalise, stivlaheim_shorten or stivlaheim_rescue */
+typedef uint32_t making(const uint8_t *bytes, size_t bytes_len, uint8_t *out, size_t out_len, uint64_t *answer, size_t answer_len);
 
-/* The first call has no room, and says how many bytes are needed: in normal form never more than five times the save, and in its shortest
- * spelling never more than the save. */
-static int write_spelled(const struct save *save, const char *name, spelling *spell) {
-    uint64_t answer[STIVLAHEIM_WORDS];
-    uint32_t code = spell(save->bytes, save->len, NULL, 0, answer, STIVLAHEIM_WORDS);
+/* The first call has no room, and says how many bytes are needed: in normal form never more than five times the save, in its shortest spelling
+ * never more than the save, and rescued never more than twice the save. */
+static int write_made(const struct save *save, const char *name, making *make, uint64_t *answer) {
+    uint32_t code = make(save->bytes, save->len, NULL, 0, answer, STIVLAHEIM_WORDS);
     uint8_t *out = NULL;
     if (code == STIVLAHEIM_NO_ROOM) {
         size_t need = (size_t)answer[1];
@@ -222,7 +226,7 @@ static int write_spelled(const struct save *save, const char *name, spelling *sp
         if (out == NULL) {
             return failed("cannot write", name);
         }
-        code = spell(save->bytes, save->len, out, need, answer, STIVLAHEIM_WORDS);
+        code = make(save->bytes, save->len, out, need, answer, STIVLAHEIM_WORDS);
     }
     int status = code == STIVLAHEIM_ANSWERED ? write_file(name, out, (size_t)answer[0]) : refused(save, code, answer[1]);
     free(out);
@@ -340,6 +344,24 @@ static int contents(const char *name, const char *word) {
     return status;
 }
 
+/* ---- a clipped save */
+
+/* A token that cannot be read refuses nothing here: what stands before it is kept, and the report says how much is not. */
+static int rescue(const char *name, const char *output) {
+    struct save save = {name, NULL, 0};
+    uint64_t answer[STIVLAHEIM_WORDS] = {0};
+    int status = read_save(&save);
+    if (status == WELL) {
+        status = write_made(&save, output, stivlaheim_rescue, answer);
+    }
+    if (status == WELL) {
+        printf("cut %" PRIu64 " strays %" PRIu64 " closes %" PRIu64 "\n", answer[1], answer[2], answer[3]);
+        status = printed("the report", WELL);
+    }
+    free(save.bytes);
+    return status;
+}
+
 int main(int count, char **arguments) {
     if (count > 1 && strcmp(arguments[1], "--key") == 0) {
         return count == 4 || count == 5 ? find_key(arguments[2], arguments[3], count == 5 ? arguments[4] : NULL) : usage();
@@ -347,19 +369,23 @@ int main(int count, char **arguments) {
     if (count > 1 && strcmp(arguments[1], "--contents") == 0) {
         return count == 3 || count == 4 ? contents(arguments[2], count == 4 ? arguments[3] : NULL) : usage();
     }
+    if (count > 1 && strcmp(arguments[1], "--rescue") == 0) {
+        return count == 4 ? rescue(arguments[2], arguments[3]) : usage();
+    }
     if (count < 2 || count > 4) {
         return usage();
     }
     struct save save = {arguments[1], NULL, 0};
+    uint64_t answer[STIVLAHEIM_WORDS] = {0};
     int status = read_save(&save);
     if (status == WELL) {
         status = print_tokens(&save);
     }
     if (status == WELL && count > 2) {
-        status = write_spelled(&save, arguments[2], stivlaheim_normalise);
+        status = write_made(&save, arguments[2], stivlaheim_normalise, answer);
     }
     if (status == WELL && count > 3) {
-        status = write_spelled(&save, arguments[3], stivlaheim_shorten);
+        status = write_made(&save, arguments[3], stivlaheim_shorten, answer);
     }
     free(save.bytes);
     return status;

@@ -4,8 +4,8 @@
  *     rt staticlib capi                                            proves the library and all below it, and makes target/staticlib/libcapi.a
  *     cc -Iinclude program.c target/staticlib/libcapi.a            compiles a program with it
  *
- * examples/tokens.c is such a program: it prints a save's tokens with their texts, writes its normal form and its shortest spelling, and
- * lists its contents.
+ * examples/tokens.c is such a program: it prints a save's tokens with their texts, writes its normal form and its shortest spelling, lists
+ * its contents, and rescues what a clipped save still holds.
  *
  * A slice is two parameters: a pointer to its first element, and the number of its elements.
  *
@@ -218,7 +218,7 @@ uint32_t stivlaheim_write(const uint8_t *bytes, size_t bytes_len, uint32_t kind,
 uint32_t stivlaheim_write_shortest(const uint8_t *bytes, size_t bytes_len, uint32_t kind, const uint64_t *words, size_t words_len,
                                    uint8_t *out, size_t out_len, uint64_t *answer, size_t answer_len);
 
-/* The longest save that the next three and stivlaheim_contents take, 2^31 bytes. No other call limits a save. */
+/* The longest save that the next four and stivlaheim_contents take, 2^31 bytes. No other call limits a save. */
 #define STIVLAHEIM_LIMIT UINT64_C(2147483648)
 
 /* A save in normal form. TOO_LONG over 2,147,483,648 bytes, before anything is read; then the first refusal in the order of the file: EOF,
@@ -230,6 +230,14 @@ uint32_t stivlaheim_normalise(const uint8_t *bytes, size_t bytes_len, uint8_t *o
  * order of the file, EOF or INVALID_RGB; then NO_ROOM with the bytes needed. An output of the save's length always suffices; one of no
  * bytes tells what is needed. What two saves are compared by is the normal form. */
 uint32_t stivlaheim_shorten(const uint8_t *bytes, size_t bytes_len, uint8_t *out, size_t out_len, uint64_t *answer, size_t answer_len);
+
+/* What can be rescued of a clipped save: the tokens' own bytes up to the first token that is refused, or all of them if none is, without
+ * strays, and then a Close, the bytes 04 00, for each container that is still open. A stray is a Close outside of every container. Words 1 to 3
+ * are the number of bytes cut off at the end, from the refused token on, that of the strays left out, and that of the Closes added. The result
+ * reads to its end and is balanced; of a save that does and is, it is the save, and the three are 0. TOO_LONG over 2,147,483,648 bytes, before
+ * anything is read; NO_ROOM with the bytes needed. A token that cannot be read refuses nothing: it ends what is kept. An output of twice the
+ * save's length always suffices; one of no bytes tells what is needed. */
+uint32_t stivlaheim_rescue(const uint8_t *bytes, size_t bytes_len, uint8_t *out, size_t out_len, uint64_t *answer, size_t answer_len);
 
 /* The text that the program dump prints for a save. TOO_LONG over 2,147,483,648 bytes, before anything is read; NO_ROOM with the bytes
  * needed. A token that cannot be read refuses nothing: the text says so. */

@@ -10,6 +10,7 @@ pub mod lexing;
 mod offered;
 pub mod parts;
 mod replies;
+pub mod rescuing;
 pub mod source_reads;
 mod source_replies;
 pub mod sources;

@@ -10,18 +10,19 @@ use Rattle.form.specs.Numbers.{le, leBytes, MAX}
 use Rattle.form.specs.Values.{Value, Open, Close, Equal, F64, Lookup, Id, Truth, Quoted, Unquoted, Rgb, kind}
 use Rattle.form.specs.Table.{table, entries, find, orPlain, after, reserved}
 use Rattle.form.specs.Ids.{OPEN, CLOSE, CHANNEL}
-use Rattle.form.specs.Refusals.{Eof, LongString, WideLookup, ReservedId, BadPlace, refusalAt, refusalValue, refusalValues}
+use Rattle.form.specs.Refusals.{Eof, LongString, WideLookup, ReservedId, NoRoom, BadPlace, refusalAt, refusalValue, refusalValues}
 use Rattle.form.specs.Readers.{further, andThen, mapped, _followed-by_, _giving_, give, at}
 use Rattle.form.specs.Reading.{next, piece, num, string, channel, alphaEnd, withAlpha, ending, headed, judged, channels, rgb, payload, token}
 use Rattle.form.specs.Skipping.{stepped, passing, orStop, closed, turned, skipF, skipping, skipContainer}
 use Rattle.form.specs.Calls.{cursorIn, cursorAt, atStart, gives, refuses, fits, within, positions, ended, reads, optional, nexts, ifFound, peeks, landed, skips}
 use Rattle.form.specs.Spelling.{tag, body, spell, reason}
 use Rattle.form.specs.Shortest.{heldBy, firstOf, firstIn, otherwise, orSpelled, shortest}
-use Rattle.form.specs.Saves.{Walk, done, then, step, walkF, walk}
-use Rattle.form.specs.Writing.{unwritten, leaves, fitted, write, firstRefusal, unless, normalise}
+use Rattle.form.specs.Saves.{Walk, done, then, step, walkF, walk, values, whole, tokens, spellAll}
+use Rattle.form.specs.Writing.{written, unwritten, leaves, fitted, write, firstRefusal, unless, normalise}
 use Rattle.form.specs.Fast.{fast, slow, front, stepNumber, stepText, stepBy, fastStep}
 use Rattle.form.specs.Keys.{isOpen, isClose, isEqual, deeper, ahead, makesKey, isKey, those, keysOf, count, counts}
 use Rattle.form.specs.Finding.{isPlain, firstPlain, cutBy, firstly, sought, staying, walkAt, finds}
+use Rattle.form.specs.Rescue.{openAfter, readTo, keptOf, closes, rescued, report, rescue, ifWritten, told, readable, balanced}
 use Rattle.form.specs.Ascii.{ascii, decimalF, decimal, spaced, line}
 use Rattle.form.specs.Listing.{name, shown, tokenLine, countWords, endLine, refusalWord, errorLine, linesOf, listing}
 use Rattle.form.proofs.Specimens.{eof}
@@ -166,3 +167,27 @@ pub finds-hold : (finds 0x2802 (0x01 ∷ 0x28 ∷ 0x01 ∷ 0x00 ∷ 0x02 ∷ 0x2
 unfolding le kind table entries find orPlain after refusalAt further andThen mapped _followed-by_ _giving_ next num string payload token step walkF tag
     isOpen isClose isEqual deeper ahead makesKey isKey those keysOf fits within isPlain firstPlain cutBy firstly sought staying walkAt finds
 finds-hold = (refl, refl, refl, refl, refl, refl, refl, refl, refl, refl, refl, refl, refl)
+
+abbrev clipped : List ℕ
+clipped = 0x04 ∷ 0x00 ∷ 0x01 ∷ 0x28 ∷ 0x01 ∷ 0x00 ∷ 0x03 ∷ 0x00 ∷ 0x0e ∷ 0x00 ∷ 0x02 ∷ 0x03 ∷ 0x00 ∷ 0x0f ∷ 0x00 ∷ 0x09 ∷ 0x00 ∷ 0x61 ∷ []
+
+-- of a clipped save the stray is left out, the refused token's first bytes are cut, and both containers are closed; the room is asked for
+-- that; strays in a row count each; nothing is left of a save that begins with damage; what lacks nothing stays, whatever its spellings
+pub rescue-holds : (rescue 15 clipped ≡ written (0x01 ∷ 0x28 ∷ 0x01 ∷ 0x00 ∷ 0x03 ∷ 0x00 ∷ 0x0e ∷ 0x00 ∷ 0x02 ∷ 0x03 ∷ 0x00 ∷ 0x04 ∷ 0x00 ∷ 0x04 ∷ 0x00 ∷ []))
+    × (report clipped ≡ record { cutOff = 5; strays = 1; added = 2 })
+    × (told 15 clipped ≡ some (record { cutOff = 5; strays = 1; added = 2 }))
+    × (rescue 14 clipped ≡ unwritten (NoRoom 15))
+    × (told 14 clipped ≡ none)
+    × (rescued (0x04 ∷ 0x00 ∷ 0x04 ∷ 0x00 ∷ 0x03 ∷ 0x00 ∷ 0x04 ∷ 0x00 ∷ 0x04 ∷ 0x00 ∷ []) ≡ 0x03 ∷ 0x00 ∷ 0x04 ∷ 0x00 ∷ [])
+    × (report (0x04 ∷ 0x00 ∷ 0x04 ∷ 0x00 ∷ 0x03 ∷ 0x00 ∷ 0x04 ∷ 0x00 ∷ 0x04 ∷ 0x00 ∷ []) ≡ record { cutOff = 0; strays = 3; added = 0 })
+    × (rescued (0x43 ∷ 0x02 ∷ []) ≡ [])
+    × (report (0x43 ∷ 0x02 ∷ []) ≡ record { cutOff = 2; strays = 0; added = 0 })
+    × (rescued (0x0e ∷ 0x00 ∷ 0x02 ∷ 0x03 ∷ 0x00 ∷ 0x04 ∷ 0x00 ∷ []) ≡ 0x0e ∷ 0x00 ∷ 0x02 ∷ 0x03 ∷ 0x00 ∷ 0x04 ∷ 0x00 ∷ [])
+    × (readable clipped ≡ false)
+    × (balanced (0x03 ∷ 0x00 ∷ 0x04 ∷ 0x00 ∷ []) ≡ true)
+    × (balanced (0x03 ∷ 0x00 ∷ []) ≡ false)
+    × (balanced (0x04 ∷ 0x00 ∷ []) ≡ false)
+unfolding le leBytes kind table entries find orPlain after OPEN CLOSE CHANNEL refusalAt further andThen mapped _followed-by_ _giving_ next piece num string rgb payload
+    token step walkF walk values whole tokens spellAll tag body spell fitted isOpen isClose deeper those count openAfter readTo keptOf closes rescued report
+    rescue ifWritten told readable balanced
+rescue-holds = (refl, refl, refl, refl, refl, refl, refl, refl, refl, refl, refl, refl, refl, refl)

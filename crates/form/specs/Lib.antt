@@ -18,3 +18,4 @@ pub mod Finding
 pub mod Contents
 pub mod Ascii
 pub mod Listing
+pub mod Rescue

@@ -6,12 +6,12 @@ use mathlib.Core.List.{List, [], _∷_}
 use lib.ListN.{drop}
 use lib.Dec.{eqb}
 use borrow.Author.Tests.{eqb-true, eqb-false}
-use Rattle.form.specs.Values.{Value, Open, Equal, kind}
+use Rattle.form.specs.Values.{Value, Open, Close, Equal, kind}
 use Rattle.form.specs.Table.{Payload, number, text, colour, table, entries, find, orPlain, after}
 use Rattle.form.specs.Ids.{sample}
 use Rattle.form.specs.Readers.{Answer, found, refused, further, at, _giving_}
 use Rattle.form.specs.Reading.{num, string, payload}
-use Rattle.form.specs.Keys.{isOpen, isEqual}
+use Rattle.form.specs.Keys.{isOpen, isClose, isEqual}
 use Rattle.laws.proofs.Found.{All, all-mapped, num-found, string-found, rgb-found}
 use Rattle.laws.proofs.Lookups.{InEach, by-table, plain-after}
 use Rattle.laws.proofs.Elsewhere.{eachId, listed, elsewhere}
@@ -85,10 +85,14 @@ module _ (u : Value) (j : ℕ) (own : eqb (kind (sample (after j))) (kind u) ≡
   of-id : (i : ℕ) (s : List ℕ) (p : ℕ) {v : Value} {n : ℕ} → at (payload (after i)) s p ≡ found v n → eqb (kind v) (kind u) ≡ eqb i j
   of-id i s p e = ap (λ (k : ℕ). eqb k (kind u)) (kind-after i s p e) ∙ id-only i
 
--- Open and Equal have an id each of their own
+-- Open, Close and Equal have an id each of their own
 pub open-after : (i : ℕ) (s : List ℕ) (p : ℕ) {v : Value} {n : ℕ} → at (payload (after i)) s p ≡ found v n → isOpen v ≡ eqb i 0x0003
 unfolding isOpen kind sample after orPlain find entries table
 open-after = of-id Open 0x0003 refl refl refl
+
+pub close-after : (i : ℕ) (s : List ℕ) (p : ℕ) {v : Value} {n : ℕ} → at (payload (after i)) s p ≡ found v n → isClose v ≡ eqb i 0x0004
+unfolding isClose kind sample after orPlain find entries table
+close-after = of-id Close 0x0004 refl refl refl
 
 pub equal-after : (i : ℕ) (s : List ℕ) (p : ℕ) {v : Value} {n : ℕ} → at (payload (after i)) s p ≡ found v n → isEqual v ≡ eqb i 0x0001
 unfolding isEqual kind sample after orPlain find entries table

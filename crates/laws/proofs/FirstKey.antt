@@ -58,12 +58,12 @@ key-ahead a v w u e = ap (λ (o : Option Value). not (isOpen v || isClose v || i
 
 -- ---- the walk over bytes that begin with a token
 
-record Goes (m q : ℕ) (t : List ℕ) (v : Value) (n : ℕ) : Type 0 where
-  less : ℕ
-  walks : walkF m q t ≡ then q n v (walkF less (q + n) (drop n t))
-  enough : length (drop n t) ≤ less
+pub record Goes (m q : ℕ) (t : List ℕ) (v : Value) (n : ℕ) : Type 0 where
+  pub less : ℕ
+  pub walks : walkF m q t ≡ then q n v (walkF less (q + n) (drop n t))
+  pub enough : length (drop n t) ≤ less
 
-goes : (m q : ℕ) (t : List ℕ) {v : Value} {n : ℕ} → length t ≤ m → token t ≡ found v n → Goes m q t v n
+pub goes : (m q : ℕ) (t : List ℕ) {v : Value} {n : ℕ} → length t ≤ m → token t ≡ found v n → Goes m q t v n
 unfolding walkF step
 goes m q t {v} {n} h e = go m t h e (rw e at (token-in t))
   where

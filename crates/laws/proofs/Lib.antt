@@ -21,6 +21,7 @@ pub mod Tests
 pub mod ById
 pub mod Cursors
 pub mod FirstKey
+pub mod Rescuing
 pub mod Seeking
 pub mod SkipSteps
 pub mod Offsets

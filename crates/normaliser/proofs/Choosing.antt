@@ -45,7 +45,7 @@ none-before [] d h = refl
 none-before (x ∷ xs) d h = absurd (omega arith)
 
 -- what follows from one output follows from an equal one
-by-output : {o o′ : Output} {d d′ : List ℕ} → o ≡ o′ → d′ ≡ leaves o′ d → Follows o (outcome o′) d d′
+pub by-output : {o o′ : Output} {d d′ : List ℕ} → o ≡ o′ → d′ ≡ leaves o′ d → Follows o (outcome o′) d d′
 by-output {d = d} e h = record { answer = ap outcome (sym e); output = h ∙ ap (λ (x : Output). leaves x d) (sym e) }
 
 pub too-long : (y : Style) (s d : List ℕ) → LIMIT < length s → Follows (saved y (length d) s) (declined (R.TooLong (length s))) d d

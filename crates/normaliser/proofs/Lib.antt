@@ -7,3 +7,6 @@ pub mod Choosing
 pub mod Unique
 pub mod Clean
 pub mod Readable
+pub mod Reached
+pub mod Saving
+pub mod Spans

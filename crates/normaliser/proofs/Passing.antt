@@ -86,7 +86,7 @@ pub appends-none : (d : List ℕ) (need : ℕ) → length d ≤ MAX → Appends 
 appends-none d need m = record { count = omega arith; same = refl; puts = λ h. put-none d need (omega arith) }
 
 -- bytes, and then others
-appends-then : {d d₁ d₂ a b : List ℕ} {need r₁ r₂ : ℕ} → Appends d need a d₁ r₁ → Appends d₁ r₁ b d₂ r₂ → Appends d need (a ++ b) d₂ r₂
+pub appends-then : {d d₁ d₂ a b : List ℕ} {need r₁ r₂ : ℕ} → Appends d need a d₁ r₁ → Appends d₁ r₁ b d₂ r₂ → Appends d need (a ++ b) d₂ r₂
 appends-then {a = a} {b} p q = record {
   count = omega (arith, p .count, q .count, length-append a b);
   same = q .same ∙ p .same;

@@ -1,6 +1,8 @@
-// The whole save in normal form, into a lent output; and in its shortest spelling.
+// The whole save in normal form, into a lent output; in its shortest spelling; and what can be rescued of a clipped one.
+mod rescuing;
 mod shortening;
 mod spelling;
+mod telling;
 
 ghost use mathlib.Core.Path.{_≡_};
 ghost use Prim.Native.Nat.{_+_, _-_, _≤_, _<_};
@@ -13,6 +15,9 @@ ghost use Rattle.payload.specs.Answers.{faultOf};
 ghost use Rattle.writer.specs.Layouts.{idNumber};
 ghost use Rattle.normaliser.specs.Answers.{normalisedOutcome};
 ghost use Rattle.normaliser.specs.Stretches.{normalStyle, Passed, between, Placed, Respells, Appends};
+pub use crate::rescuing::Report;
+pub use crate::rescuing::Rescued;
+pub use crate::rescuing::rescue;
 pub use crate::shortening::Shortened;
 pub use crate::shortening::shorten;
 use crate::spelling::Run;

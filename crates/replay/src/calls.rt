@@ -26,7 +26,7 @@ pub(crate) fn holds(numbers: &[u64; NUMBERS], bytes: &[u8], output: &[u8]) -> bo
     let mut answer = [before; 8];
     let mut out = [LENT; LONGEST_OUTPUT];
     let asked = match call {
-        29..=32 | 49..=50 | 54 => outputs::ask(call, bytes, at, arg, &mut out, &mut answer),
+        29..=32 | 49..=50 | 54 | 57 => outputs::ask(call, bytes, at, arg, &mut out, &mut answer),
         33..=48 => sources::ask(call, bytes, at, arg, &mut out, &mut answer),
         52 | 55 => lists::ask(call, bytes, at, &mut out, &mut answer),
         _ => ask(call, bytes, at, offset, arg, &mut answer),
@@ -49,7 +49,7 @@ fn same_code(asked: Asked, code: u64) -> bool {
 // What the words are before the call, so that one that is left alone shows. The calls on an id and those that make a state are lent none.
 fn lent(call: u64) -> u64 {
     match call {
-        3..=46 | 49..=56 => u64::MAX,
+        3..=46 | 49..=57 => u64::MAX,
         _ => 0,
     }
 }

@@ -2,6 +2,7 @@
 use crate::calls::Asked;
 use crate::lists;
 use capi::lexing;
+use capi::rescuing;
 use capi::stepping;
 use capi::writing;
 
@@ -35,6 +36,7 @@ fn ask_within(call: u64, bytes: &[u8], arg: usize, out: &mut [u8], answer: &mut 
         49 => write(bytes, arg, out, answer, true),
         50 => Asked::Code(writing::stivlaheim_shorten(bytes, out, answer)),
         54 => lists::write(bytes, out, answer),
+        57 => Asked::Code(rescuing::stivlaheim_rescue(bytes, out, answer)),
         _ => Asked::Nothing,
     }
 }

@@ -16,6 +16,7 @@ pub struct Tally {
     pub finds: u64,
     pub contents: u64,
     pub positions: u64,
+    pub rescues: u64,
     pub unreadable: u64,
     pub answers: u64,
     pub different: u64,
@@ -37,6 +38,7 @@ impl Tally {
             finds: 0,
             contents: 0,
             positions: 0,
+            rescues: 0,
             unreadable: 0,
             answers: 0,
             different: 0,
@@ -78,6 +80,7 @@ impl Tally {
             51 => t.finds = more(t.finds),
             52..=55 => t.contents = more(t.contents),
             56 => t.positions = more(t.positions),
+            57 => t.rescues = more(t.rescues),
             _ => t.unreadable = more(t.unreadable),
         }
         t
@@ -96,6 +99,7 @@ impl Tally {
         print(b", finds ", self.finds);
         print(b", contents ", self.contents);
         print(b", positions ", self.positions);
+        print(b", rescues ", self.rescues);
         print(b", unreadable ", self.unreadable);
         print(b"\n", self.answers);
         print(b" answers replayed, ", self.different);

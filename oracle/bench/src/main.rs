@@ -1,5 +1,5 @@
-//! How fast the port reads, skips, normalises, shortens, steps, finds and lists beside the original, on the same bytes, in
-//! turns.
+//! How fast the port reads, skips, normalises, shortens, steps, finds, lists and rescues beside the original, on the same
+//! bytes, in turns.
 
 mod arguments;
 mod callgrind;

@@ -1,7 +1,7 @@
 //! What is measured.
 
 use original::FAST_WINDOW;
-use protocol::{Answer, Call, Span, Spelling, WORDS, code};
+use protocol::{Answer, Call, Span, Spelling, Token, WORDS, code};
 use saves::{Flavour, Plan, Rng, narrow, save};
 use std::hint::black_box;
 
@@ -33,10 +33,15 @@ pub enum Task {
     Contents,
     /// Beside the port's own count of tokens, in place of the original.
     ContentsToCount,
+    Rescue,
+    /// Beside the port's own normaliser, in place of the original.
+    RescueToNormalise,
+    /// The same, with strays.
+    StraysToNormalise,
 }
 
 impl Task {
-    const ALL: [Task; 8] = [
+    const ALL: [Task; 11] = [
         Task::Read,
         Task::Skip,
         Task::Normalise,
@@ -45,6 +50,9 @@ impl Task {
         Task::Find,
         Task::Contents,
         Task::ContentsToCount,
+        Task::Rescue,
+        Task::RescueToNormalise,
+        Task::StraysToNormalise,
     ];
 
     /// Colours are not fast, and the last three flavours have some.
@@ -65,6 +73,9 @@ impl Task {
             Task::Find => "find key",
             Task::Contents => "contents",
             Task::ContentsToCount => "contents / the port's count",
+            Task::Rescue => "rescue",
+            Task::RescueToNormalise => "rescue / the port's normalise",
+            Task::StraysToNormalise => "rescue with strays / the port's normalise",
         }
     }
 }
@@ -85,18 +96,42 @@ impl Work {
     }
 
     /// For skipping, the save stands in a container whose Open is read already; to have a normal form, it has no wide
-    /// lookups. The same save is shortened.
+    /// lookups. The same save is shortened and rescued.
     pub fn input(self) -> Vec<u8> {
         let mut rng = Rng::new(self.flavour as u64);
         let mut bytes = save(Plan { flavour: self.flavour, size: SIZE, longest_text: LONGEST_TEXT }, &mut rng);
         match self.task {
             Task::Skip => bytes.extend([4, 0]),
-            Task::Normalise | Task::Shorten => narrow(&mut bytes),
+            Task::Normalise | Task::Shorten | Task::Rescue | Task::RescueToNormalise => narrow(&mut bytes),
+            Task::StraysToNormalise => {
+                narrow(&mut bytes);
+                bytes = with_strays(&bytes);
+            }
             Task::Find => with_key(&mut bytes),
             Task::Read | Task::Fast | Task::Contents | Task::ContentsToCount => {}
         }
         bytes
     }
+}
+
+/// A stray after each token that ends outside of every container.
+fn with_strays(bytes: &[u8]) -> Vec<u8> {
+    let (tokens, _) = original::tokens(bytes);
+    let ends = tokens.iter().skip(1).map(|(next, _)| *next).chain([bytes.len()]);
+    let mut out = Vec::new();
+    let mut depth = 0u64;
+    for ((at, token), end) in tokens.iter().zip(ends) {
+        out.extend(&bytes[*at..end]);
+        match token {
+            Token::Open => depth += 1,
+            Token::Close => depth -= 1,
+            _ => {}
+        }
+        if depth == 0 {
+            out.extend([4, 0]);
+        }
+    }
+    out
 }
 
 /// A key at the end, of an id that is none before.
@@ -127,7 +162,8 @@ impl Lent {
 }
 
 /// The port's answer and output and the original's are the same, and all of the input is done. What is shortened is the
-/// same once the original has written its tokens, and a count of tokens is the original's.
+/// same once the original has written its tokens, a count of tokens and a normal form are the original's, and what is
+/// rescued is the input.
 pub fn agreed(work: Work, bytes: &[u8], lent: &mut Lent) -> bool {
     let [port, original] = Side::ALL.map(|side| {
         let answer = measured(side, work.task, bytes, lent);
@@ -142,6 +178,8 @@ pub fn agreed(work: Work, bytes: &[u8], lent: &mut Lent) -> bool {
         Task::Fast => words[0] + (FAST_WINDOW as u64) > end,
         Task::Find => words[1] + 4 == end,
         Task::Contents | Task::ContentsToCount => words[0] > 0,
+        Task::Rescue | Task::RescueToNormalise => words[..4] == [end, 0, 0, 0],
+        Task::StraysToNormalise => words[0] + 2 * words[2] == end && words[2] > 0,
     };
     let same = match work.task {
         Task::Shorten => {
@@ -149,6 +187,10 @@ pub fn agreed(work: Work, bytes: &[u8], lent: &mut Lent) -> bool {
             (original::normalise(shortened, &mut lent.out), lent.clone()) == original
         }
         Task::ContentsToCount => original.0 == original::count_tokens(bytes),
+        Task::Rescue => written.out.starts_with(bytes) && original.0.code == code::ANSWERED,
+        Task::RescueToNormalise | Task::StraysToNormalise => {
+            original == (original::normalise(bytes, &mut lent.out), lent.clone())
+        }
         _ => port == original,
     };
     *code == code::ANSWERED && done && same
@@ -164,7 +206,12 @@ pub fn stivlaheim_bench_measured(side: Side, task: Task, bytes: &[u8], lent: &mu
             port::answer(|words| port::count_tokens(bytes, words))
         }
         (Side::Port, Task::Skip) => port::answer(|words| port::lex(bytes, 0, 0, Call::SkipContainer, words)),
-        (Side::Port, Task::Normalise) => port::answer(|words| port::respell(Spelling::Normal, bytes, out, words)),
+        (Side::Port, Task::Normalise) | (Side::Original, Task::RescueToNormalise | Task::StraysToNormalise) => {
+            port::answer(|words| port::respell(Spelling::Normal, bytes, out, words))
+        }
+        (Side::Port, Task::Rescue | Task::RescueToNormalise | Task::StraysToNormalise) => {
+            port::answer(|words| port::rescue(bytes, out, words))
+        }
         (Side::Port, Task::Shorten) => port::answer(|words| port::respell(Spelling::Shortest, bytes, out, words)),
         (Side::Port, Task::Fast) => port_steps(bytes),
         (Side::Port, Task::Find) => port::answer(|words| port::find_key(bytes, 0, 0, last_key(bytes), words)),
@@ -173,7 +220,7 @@ pub fn stivlaheim_bench_measured(side: Side, task: Task, bytes: &[u8], lent: &mu
         }
         (Side::Original, Task::Read) => original::count_tokens(bytes),
         (Side::Original, Task::Skip) => original::skip_container(bytes),
-        (Side::Original, Task::Normalise | Task::Shorten) => original::normalise(bytes, out),
+        (Side::Original, Task::Normalise | Task::Shorten | Task::Rescue) => original::normalise(bytes, out),
         (Side::Original, Task::Fast) => original::step_fast(bytes),
         (Side::Original, Task::Find) => original::find_key(bytes, 0, last_key(bytes)).expect("a place in the input"),
         (Side::Original, Task::Contents) => original::contents(bytes, list),

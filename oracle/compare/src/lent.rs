@@ -128,11 +128,16 @@ impl<U: Unit> SeenLent<U> {
 impl SeenLent {
     /// What a whole output holds: all is written and counted, or there is no room and nothing is written.
     pub fn whole(case: &impl Lend<Unit = u8>, room: usize, written: &[u8]) -> SeenLent {
+        SeenLent::whole_telling(case, room, written, &[])
+    }
+
+    /// The same, with words after the count that tell of what is written.
+    pub fn whole_telling(case: &impl Lend<Unit = u8>, room: usize, written: &[u8], told: &[u64]) -> SeenLent {
         let need = written.len();
         if room < need {
             return SeenLent::answered(case, Answer::refused(code::NO_ROOM, 0, need));
         }
-        SeenLent::changed(case, Answer::found(need, &[]), written)
+        SeenLent::changed(case, Answer::found(need, told), written)
     }
 }
 

@@ -9,6 +9,7 @@ mod lent;
 mod listed;
 mod offsets;
 mod record;
+mod rescued;
 mod respelled;
 mod run;
 mod shortest;
@@ -64,4 +65,5 @@ fn calls(run: &mut Run, rng: &mut Rng, arguments: &Arguments) {
     stages::whole(run, rng, arguments.cases);
     stages::sources(run, rng, arguments.cases);
     stages::contents(run, rng, arguments.cases / 4);
+    stages::rescuing(run, rng, arguments.cases / 4);
 }

@@ -27,7 +27,8 @@ pub fn answer_request(request: &Request) -> Option<String> {
         Request::Toc { capacity, bytes } => filled(*capacity, bytes),
         Request::Fast { held, window } => Some(stepped(*held, window)),
         Request::Source { source, ops } => source_lines(source, ops),
-        Request::Write { spelling: Spelling::Shortest, .. } | Request::Dump { .. } | Request::Save { .. } => None,
+        Request::Write { spelling: Spelling::Shortest, .. } | Request::Dump { .. } => None,
+        Request::Save { .. } | Request::Rescue { .. } => None,
         Request::TocSearch { .. } | Request::TocWrite { .. } | Request::TocRead { .. } => None,
     }
 }

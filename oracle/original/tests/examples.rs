@@ -8,9 +8,9 @@ const EXAMPLES: &str = include_str!("../../calls/examples");
 const DIFFERENT: [(&str, &str); 2] = [("write 99 lookup 16777216", "ok 5 410d000000"), ("write 99 id 3", "ok 2 0300")];
 
 /// What the original does not answer: it cannot stand past its input, in a file that is too long or in a state that does
-/// not fit, nor hold a text that is not there; it only fails where there is no room, and has no dump, no normal form and no shortest spelling. It
-/// limits no save, and keeps no table of contents.
-const UNANSWERED: [&str; 48] = [
+/// not fit, nor hold a text that is not there; it only fails where there is no room, and has no dump, no normal form and
+/// no shortest spelling. It limits no save, rescues none, and keeps no table of contents.
+const UNANSWERED: [&str; 55] = [
     "lex 0102 9 read_id",
     "write 5 u32 7",
     "write 0 id 3",
@@ -36,6 +36,13 @@ const UNANSWERED: [&str; 48] = [
     "shorten 17 0128010003006701fbffffffffffffff670100000000000000000f0000003f0d070000000400",
     "shorten 99 01280f000200",
     "shorten 0 *2147483649",
+    "rescue 15 04000128010003000e000203000f00090061",
+    "rescue 14 04000128010003000e000203000f00090061",
+    "rescue 99 0128010003004f0d05470d420d400d070400",
+    "rescue 99 03003f0d00000001",
+    "rescue 9 0400040003",
+    "rescue 0 -",
+    "rescue 0 *2147483649",
     "find 0128 3 0x2801",
     "at 100 lex 0102 9 read_id",
     "at 18446744073709551614 lex 0128 3 position",

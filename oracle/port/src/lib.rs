@@ -16,7 +16,7 @@ pub use contents::{contents, contents_read, contents_search, contents_write};
 pub use fast::next_token_fast;
 pub use lexer::{count_tokens, find_key, is_id, kind, lex, text};
 pub use requests::answer_request;
-pub use saves::{list, respell};
+pub use saves::{list, rescue, respell};
 pub use source::{Lists, new_source, source};
 pub use split::split;
 pub use writer::write;

@@ -3,11 +3,11 @@
 use crate::source::Window;
 use crate::{
     answer, contents, contents_read, contents_search, contents_write, find_key, is_id, kind, lex, list,
-    next_token_fast, respell, split, write,
+    next_token_fast, rescue, respell, split, write,
 };
 use protocol::{
     Answer, Call, Got, Handed, Op, Request, Source, UNTOUCHED, code, contents_line, dump_line, fast_line, find_line,
-    kind_line, lex_line, output_line, search_line, source_line, split_line,
+    kind_line, lex_line, output_line, rescue_line, search_line, source_line, split_line,
 };
 
 /// No answer fills more, and no output is made longer.
@@ -32,6 +32,10 @@ pub fn answer_request(request: &Request) -> String {
         Request::Save { spelling, room, bytes } => {
             let (answer, out) = lending(*room, |out, words| respell(*spelling, bytes, out, words));
             output_line(&answer, &out)
+        }
+        Request::Rescue { room, bytes } => {
+            let (answer, out) = lending(*room, |out, words| rescue(bytes, out, words));
+            rescue_line(&answer, &out)
         }
         Request::Toc { capacity, bytes } => filled(*capacity, |list, words| contents(bytes, list, words)),
         Request::TocSearch { list, position } => {

@@ -1,4 +1,4 @@
-//! A whole save into a lent output: in normal form, in its shortest spelling, and its dump.
+//! A whole save into a lent output: in normal form, in its shortest spelling, its dump, and what can be rescued of it.
 
 use protocol::Spelling;
 
@@ -37,4 +37,6 @@ functions! {
     shorten stivlaheim_shorten,
     /// The dump's text.
     list stivlaheim_list,
+    /// What can be kept of it, with the Closes that it lacks.
+    rescue stivlaheim_rescue,
 }

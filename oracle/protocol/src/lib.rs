@@ -17,7 +17,8 @@ pub use contents::{Span, UNTOUCHED, list_words};
 pub use hex::{hex, unhex};
 pub use request::Request;
 pub use show::{
-    contents_line, dump_line, fast_line, find_line, kind_line, lex_line, output_line, search_line, split_line,
+    contents_line, dump_line, fast_line, find_line, kind_line, lex_line, output_line, rescue_line, search_line,
+    split_line,
 };
 pub use source::{Got, Numbers, Op, STATE_WORDS, Source, State, source_line};
 pub use spelling::Spelling;

@@ -54,6 +54,16 @@ pub fn output_line(answer: &Answer, out: &[u8]) -> String {
     }
 }
 
+/// What was rescued, and what is told of it: the bytes cut, the strays left out, the Closes added.
+pub fn rescue_line(answer: &Answer, out: &[u8]) -> String {
+    let line = output_line(answer, out);
+    let [_, cut, strays, closes, ..] = answer.words;
+    match answer.code {
+        code::ANSWERED => format!("{line} cut {cut} strays {strays} closes {closes}"),
+        _ => line,
+    }
+}
+
 /// The answer of a call that fills a list, with all records as it left them.
 pub fn contents_line(answer: &Answer, list: &[Span]) -> String {
     let count = answer.words[0];

@@ -5,7 +5,7 @@ use protocol::{Answer, hex};
 use std::fmt::{Display, Formatter, Result};
 
 /// The calls by their numbers, from 1. The replay has the same table, so that a new call goes to the end.
-pub const CALLS: [&str; 56] = [
+pub const CALLS: [&str; 57] = [
     "into_kind",
     "is_id",
     "get_split",
@@ -62,6 +62,7 @@ pub const CALLS: [&str; 56] = [
     "contents_write",
     "contents_read",
     "position",
+    "rescue",
 ];
 
 /// A question with the answer that is expected, without the end of its line.

@@ -46,6 +46,7 @@ pub fn all(sample: &mut Sample, seed: u64) {
         let bytes = save(Plan { flavour, size: 40, longest_text: 12 }, &mut rng);
         whole(sample, &bare(&bytes, &mut rng));
     }
+    clipped(sample, &mut rng);
 }
 
 /// Every kind with the ends of its values, and each reserved id as a plain one.
@@ -99,8 +100,10 @@ fn places(sample: &mut Sample) {
 
 fn specimens(sample: &mut Sample) {
     for (_, request) in specimen_requests() {
-        if let Request::Save { bytes, .. } | Request::Dump { bytes } | Request::Lex { bytes, .. } = request {
-            whole(sample, &bytes);
+        match request {
+            Request::Save { bytes, .. } | Request::Dump { bytes } | Request::Lex { bytes, .. } => whole(sample, &bytes),
+            Request::Rescue { bytes, .. } => made(sample, Form::Rescued, &bytes),
+            _ => {}
         }
     }
 }
@@ -127,6 +130,28 @@ fn noise(sample: &mut Sample, rng: &mut Rng) {
     }
 }
 
+/// Strays in front, between and behind, one and several; containers left open, up to as many as are recorded; each with an
+/// end in the middle of a token, and a save cut in every other place.
+fn clipped(sample: &mut Sample, rng: &mut Rng) {
+    let [open, close, value] = [&[3, 0][..], &[4, 0], &[0x3e, 0x0d, 4, 0]];
+    let mut saves = vec![
+        [close, open, value].concat(),
+        [close, close, value, close, open, close, close].concat(),
+        [open, value, open, close, close, close, open].concat(),
+        [&open.repeat(60)[..], &close.repeat(61), open].concat(),
+        [&close.repeat(60)[..], &open.repeat(60)].concat(),
+    ];
+    for end in [&[4][..], &[0x0f, 0, 9, 0, 4, 0], &[0x43, 2, 4, 0]] {
+        let ended: Vec<Vec<u8>> = saves[..3].iter().map(|save| [save, end].concat()).collect();
+        saves.extend(ended);
+    }
+    let save = save(Plan { flavour: Flavour::Mixture, size: 60, longest_text: 8 }, rng);
+    let cut = (1..save.len().min(80)).step_by(2).map(|len| [close, open, &save[..len]].concat());
+    for bytes in saves.into_iter().chain(cut) {
+        made(sample, Form::Rescued, &bytes);
+    }
+}
+
 /// Every reserved id and some others with windows of few and of enough bytes, texts about the window's end, and held
 /// bytes that are not eight.
 fn steps(sample: &mut Sample, rng: &mut Rng) {
@@ -147,16 +172,20 @@ fn steps(sample: &mut Sample, rng: &mut Rng) {
     }
 }
 
-/// Both spellings and the dump, at every room that makes a difference.
+/// Both spellings, the dump and what is rescued, at every room that makes a difference.
 fn whole(sample: &mut Sample, bytes: &[u8]) {
     if bytes.len() > LONGEST {
         return;
     }
     for form in Form::ALL {
-        let whole = Whole::new(form, bytes, 0);
-        for room in rooms(whole.need()) {
-            add(sample, form.name(), [room, 0], &whole.with_room(room).expected(), bytes);
-        }
+        made(sample, form, bytes);
+    }
+}
+
+fn made(sample: &mut Sample, form: Form, bytes: &[u8]) {
+    let whole = Whole::new(form, bytes, 0);
+    for room in rooms(whole.need()) {
+        add(sample, form.name(), [room, 0], &whole.with_room(room).expected(), bytes);
     }
 }
 

@@ -1,5 +1,6 @@
 //! All ids, and all short inputs.
 
+use super::rescuing::with_more_room;
 use super::sweep::{TOKENS, every_call, tokens_at_every_place};
 use super::whole::one_save;
 use crate::offsets::at_some;
@@ -26,7 +27,7 @@ pub fn splits(run: &mut Run) {
 
 const THREE: usize = 3;
 
-/// All inputs of up to so many bytes; and every call at the start of all inputs of three.
+/// All inputs of up to so many bytes; and every call at the start of all inputs of three, and what is rescued of them.
 pub fn all_short_inputs(run: &mut Run, longest: usize) {
     short_input(run, &[]);
     run.shared("short inputs, by their first byte", 0..=u8::MAX, |run, first| {
@@ -54,6 +55,7 @@ fn at_the_start_of_three(run: &mut Run, bytes: &[u8]) {
     if bytes.len() == THREE {
         every_call(run, bytes, 0, at_some);
         run.check(&Count::new(bytes));
+        with_more_room(run, bytes);
     }
 }
 

@@ -1,7 +1,8 @@
-//! All saves of few tokens: their keys, from every cursor and at every cut, their dump, and their contents, searched at
-//! every position.
+//! All saves of few tokens: their keys, from every cursor and at every cut, their dump, what is rescued at every cut, and
+//! their contents, searched at every position.
 
 use super::contents::{every_position, filled};
+use super::rescuing::with_more_room;
 use super::whole::one_dump;
 use crate::offsets::at_some;
 use crate::run::Run;
@@ -44,6 +45,9 @@ fn one(run: &mut Run, bytes: &[u8]) {
     one_dump(run, bytes);
     filled(run, bytes);
     every_position(run, bytes);
+    for len in 0..=bytes.len() {
+        with_more_room(run, &bytes[..len]);
+    }
     for id in IDS {
         for at in 0..=bytes.len() + 1 {
             at_some(run, &Find::new(bytes, at, id));

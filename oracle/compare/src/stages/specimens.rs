@@ -8,7 +8,7 @@ use crate::lent::SeenLent;
 use crate::offsets::{at_each, bad_place};
 use crate::run::Run;
 use crate::subjects::{Fill, Form, Origin, Search, Whole, Write, Written};
-use protocol::{Request, find_line, output_line, search_line};
+use protocol::{Request, find_line, output_line, rescue_line, search_line};
 
 /// Request and answer, one specimen a line.
 const SPECIMENS: &str = include_str!("specimens.txt");
@@ -63,7 +63,7 @@ impl Case for Specimen {
     }
 }
 
-/// The original has no call for a whole save, no shortest spelling and no dump: they are made from its tokens. A table of
+/// The original has no call for a whole save, no shortest spelling, no dump and no rescue: they are made from its tokens. A table of
 /// contents that is searched, written or read is answered in FORMAT.md's words.
 fn original_line(request: &Request) -> String {
     let line = |seen: SeenLent| output_line(&seen.seen.answer(), seen.lent());
@@ -72,6 +72,10 @@ fn original_line(request: &Request) -> String {
             line(Write::new(*spelling, &token.bytes, token.kind, &token.words, *room).expected())
         }
         Request::Save { spelling, room, bytes } => line(Whole::new(Form::Spelled(*spelling), bytes, *room).expected()),
+        Request::Rescue { room, bytes } => {
+            let seen = Whole::new(Form::Rescued, bytes, *room).expected();
+            rescue_line(&seen.seen.answer(), seen.lent())
+        }
         Request::TocSearch { list, position } => {
             search_line(&Search::new(list.as_flattened(), *position).expected().answer())
         }
@@ -114,18 +118,19 @@ mod tests {
 
     const EXAMPLES: &str = include_str!("../../../calls/examples");
 
-    /// The protocol page's, but for the save that is too long, which the original would read.
+    /// The protocol page's, but for the saves that are too long, which the original would read.
     #[test]
-    fn examples_of_contents_in_our_words() {
+    fn examples_in_our_words() {
         let lines: Vec<&str> = EXAMPLES.lines().collect();
         let (pairs, _) = lines.as_chunks::<2>();
-        let contents = |request: &str| request.starts_with("toc") && !request.contains('*');
+        let ours =
+            |request: &str| ["toc", "rescue"].iter().any(|word| request.starts_with(word)) && !request.contains('*');
         let mut asked = 0;
-        for [line, wanted] in pairs.iter().filter(|[line, _]| contents(line)) {
+        for [line, wanted] in pairs.iter().filter(|[line, _]| ours(line)) {
             let request = Request::parse(line).unwrap_or_else(|| panic!("not understood: {line}"));
             assert_eq!(original_line(&request), *wanted, "{line}");
             asked += 1;
         }
-        assert_eq!(asked, 21);
+        assert_eq!(asked, 27);
     }
 }

@@ -1,9 +1,8 @@
-//! Whole saves in both spellings, their dump and their contents, and the fast step along them.
+//! Whole saves in both spellings, their dump, what is rescued of them and their contents, and the fast step along them.
 
 use super::contents::filled;
 use crate::run::Run;
 use crate::subjects::{Fast, Form, Kept, Limit, Whole};
-use protocol::Spelling;
 use saves::ids::TEXTS;
 use saves::{Flavour, Plan, Rng, bad_colour, flip, narrow, random_bytes, random_ids, save, save_of_a_build};
 
@@ -138,7 +137,7 @@ pub fn one_dump(run: &mut Run, bytes: &[u8]) {
     run.check(&dump.with_room(dump.need()));
 }
 
-fn rooms(need: usize) -> impl Iterator<Item = usize> {
+pub fn rooms(need: usize) -> impl Iterator<Item = usize> {
     let below = [0, need.saturating_sub(1)];
     below.into_iter().take(need.min(2)).chain([need, need + 1])
 }
@@ -161,10 +160,10 @@ fn limits(run: &mut Run) {
     for at in (0..Limit::LONGEST).step_by(4 + TEXT) {
         bytes[at..at + 4].copy_from_slice(&[0x0f, 0, 0xfc, 0xff]);
     }
-    for spelling in Spelling::ALL {
-        run.check(&Limit { form: Form::Spelled(spelling), bytes: &bytes[..Limit::LONGEST] });
-    }
     for form in Form::ALL {
+        if form != Form::Dump {
+            run.check(&Limit { form, bytes: &bytes[..Limit::LONGEST] });
+        }
         run.check(&Limit { form, bytes: &bytes });
     }
 }

@@ -4,9 +4,10 @@ use crate::case::Case;
 use crate::dump::dump;
 use crate::lent::{Lend, SeenLent, output};
 use crate::listed::Listed;
+use crate::rescued::rescued;
 use crate::respelled::respelled;
 use crate::shrink::{cuts, less, without, zeroed};
-use protocol::{Answer, Spelling, dump_line, hex, output_line};
+use protocol::{Answer, Spelling, dump_line, hex, output_line, rescue_line};
 use std::borrow::Cow;
 use std::cell::OnceCell;
 
@@ -14,10 +15,15 @@ use std::cell::OnceCell;
 pub enum Form {
     Spelled(Spelling),
     Dump,
+    Rescued,
 }
 
+/// What is made of a save, and what is told of it beside its length: of most forms nothing.
+type Made = (Vec<u8>, [u64; 3]);
+
 impl Form {
-    pub const ALL: [Form; 3] = [Form::Spelled(Spelling::Normal), Form::Spelled(Spelling::Shortest), Form::Dump];
+    pub const ALL: [Form; 4] =
+        [Form::Spelled(Spelling::Normal), Form::Spelled(Spelling::Shortest), Form::Dump, Form::Rescued];
 
     /// The port's function.
     pub fn name(self) -> &'static str {
@@ -25,6 +31,7 @@ impl Form {
             Form::Spelled(Spelling::Normal) => "normalise",
             Form::Spelled(Spelling::Shortest) => "shorten",
             Form::Dump => "list",
+            Form::Rescued => "rescue",
         }
     }
 
@@ -32,14 +39,20 @@ impl Form {
         match self {
             Form::Spelled(spelling) => port::respell(spelling, bytes, out, answer),
             Form::Dump => port::list(bytes, out, answer),
+            Form::Rescued => port::rescue(bytes, out, answer),
         }
     }
 
     /// Made from the original's tokens.
-    fn expected(self, bytes: &[u8]) -> Result<Vec<u8>, Answer> {
+    fn expected(self, bytes: &[u8]) -> Result<Made, Answer> {
         match self {
-            Form::Spelled(spelling) => respelled(spelling, bytes),
-            Form::Dump => Ok(dump(bytes).into_bytes()),
+            Form::Spelled(spelling) => respelled(spelling, bytes).map(|made| (made, [0; 3])),
+            Form::Dump => Ok((dump(bytes).into_bytes(), [0; 3])),
+            Form::Rescued => {
+                let rescued = rescued(bytes);
+                let told = rescued.told();
+                Ok((rescued.save, told))
+            }
         }
     }
 }
@@ -50,7 +63,7 @@ pub struct Whole<'a> {
     bytes: Cow<'a, [u8]>,
     room: usize,
     /// What should be made of them, once it was asked for.
-    made: OnceCell<Result<Vec<u8>, Answer>>,
+    made: OnceCell<Result<Made, Answer>>,
 }
 
 impl<'a> Whole<'a> {
@@ -66,13 +79,13 @@ impl<'a> Whole<'a> {
         Whole { room, ..self.clone() }
     }
 
-    fn made(&self) -> &Result<Vec<u8>, Answer> {
+    fn made(&self) -> &Result<Made, Answer> {
         self.made.get_or_init(|| self.form.expected(&self.bytes))
     }
 
     /// The room that it wants; where it is refused, as much as the save has.
     pub fn need(&self) -> usize {
-        self.made().as_ref().map_or(self.bytes.len(), Vec::len)
+        self.made().as_ref().map_or(self.bytes.len(), |(made, _)| made.len())
     }
 }
 
@@ -97,7 +110,7 @@ impl Case for Whole<'_> {
 
     fn expected(&self) -> SeenLent {
         match self.made() {
-            Ok(made) => SeenLent::whole(self, self.room, made),
+            Ok((made, told)) => SeenLent::whole_telling(self, self.room, made, told),
             Err(refused) => SeenLent::answered(self, *refused),
         }
     }
@@ -110,7 +123,7 @@ impl Case for Whole<'_> {
     fn listed(&self) -> Option<Listed> {
         match self.form {
             Form::Spelled(_) => Listed::of_writing(self.expected().seen.code),
-            Form::Dump => None,
+            Form::Dump | Form::Rescued => None,
         }
     }
 
@@ -124,6 +137,7 @@ impl Case for Whole<'_> {
     fn request(&self) -> String {
         match self.form {
             Form::Spelled(spelling) => format!("{} {} {}", spelling.of_save(), self.room, hex(&self.bytes)),
+            Form::Rescued => format!("rescue {} {}", self.room, hex(&self.bytes)),
             Form::Dump => format!("dump {} with room for {}", hex(&self.bytes), self.room),
         }
     }
@@ -132,6 +146,7 @@ impl Case for Whole<'_> {
         let line = match self.form {
             Form::Spelled(_) => output_line(&seen.seen.answer(), seen.lent()),
             Form::Dump => dump_line(&seen.seen.answer(), seen.lent()),
+            Form::Rescued => rescue_line(&seen.seen.answer(), seen.lent()),
         };
         format!("{line}   words {}", seen.raw(self))
     }
