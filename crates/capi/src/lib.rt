@@ -1,5 +1,7 @@
 // The library for C and Rust. Each exported function takes numbers and slices and asks nothing of them; it returns a number, and most put
 // eight words into a list that they are lent.
+#![tactic(auto)]
+
 mod bits;
 mod codes;
 pub mod counting;

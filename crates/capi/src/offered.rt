@@ -8,7 +8,7 @@ ghost use Rattle.capi.specs.Offered.{offered_of, number_token, small_token, bool
 use payload::{Alpha, Rgb, Text};
 use token::Token;
 
-#[derive(Drop)]
+#[derive(Clone, Copy)]
 pub(crate) enum Offered {
     Token(Token),
     Nothing,

@@ -9,7 +9,7 @@ use crate::codes;
 use lexer::Refusal;
 use payload::LexError;
 
-#[derive(Drop)]
+#[derive(Clone, Copy)]
 pub(crate) struct Reply {
     pub code: u32,
     pub at: u64,

@@ -15,7 +15,7 @@ use source::{
 };
 use token::Token;
 
-#[derive(Drop)]
+#[derive(Clone, Copy)]
 pub(crate) struct SourceReply {
     pub reply: Reply,
     pub next: ParserSource,

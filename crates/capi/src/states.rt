@@ -7,7 +7,7 @@ use crate::codes;
 use source::ParserSource;
 
 // The state that is handed over, or the number to return.
-#[derive(Drop)]
+#[derive(Clone, Copy)]
 pub(crate) enum Asked {
     State(ParserSource),
     Bad(u32),

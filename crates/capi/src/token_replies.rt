@@ -57,7 +57,7 @@ fn of_rgb(at: usize, x: Rgb) -> Reply
 }
 
 // Whether there is a fourth channel, and its value.
-#[derive(Drop)]
+#[derive(Clone, Copy)]
 struct AlphaWords {
     pub given: u64,
     pub value: u64,

@@ -30,7 +30,7 @@ fn count(bytes: &[u8], room: usize) -> Filled
 }
 
 // The bytes up to a key, from the key before it, and the place after its token. After the last key they reach up to the end.
-#[derive(Drop)]
+#[derive(Clone, Copy)]
 struct Key {
     start: u32,
     end: u32,

@@ -11,7 +11,7 @@ use crate::Entry;
 use crate::searching::{Searched, Seen, search};
 
 // The number of bytes; or a refusal, which leaves the output as it is.
-#[derive(Drop)]
+#[derive(Clone, Copy)]
 pub enum Written {
     Written(usize),
     BadIndex,
@@ -20,7 +20,7 @@ pub enum Written {
 }
 
 // The number of entries; or a refusal, which leaves the list as it is.
-#[derive(Drop)]
+#[derive(Clone, Copy)]
 pub enum Opened {
     Listed(usize),
     BadIndex,

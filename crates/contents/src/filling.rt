@@ -13,7 +13,7 @@ use keys::{Next, Wanted};
 use payload::LexError;
 
 // The number of entries; or a refusal, which leaves the list as it is.
-#[derive(Drop)]
+#[derive(Clone, Copy)]
 pub enum Filled {
     Listed(usize),
     Eof(usize, usize),

@@ -1,4 +1,6 @@
 // A table of contents: the entries of a save, which of them holds a position, and the file that keeps them.
+#![tactic(auto)]
+
 mod entries;
 mod file;
 mod filling;
@@ -13,7 +15,7 @@ pub use crate::searching::{Searched, search};
 
 // Where an entry begins, and the place after it.
 #[repr(C)]
-#[derive(Drop)]
+#[derive(Clone, Copy)]
 pub struct Entry {
     pub start: u32,
     pub end: u32,

@@ -8,7 +8,7 @@ ghost use Rattle.contents.specs.Searches.{begun, follows_on, past_of, answer_of}
 use crate::Entry;
 
 // The entry's number, from 0; that none holds the position; or that the list is not in order.
-#[derive(Drop)]
+#[derive(Clone, Copy)]
 pub enum Searched {
     Held(usize),
     Nowhere,
@@ -16,7 +16,7 @@ pub enum Searched {
 }
 
 // A search after some entries: where the last one ends, whether they are in order, and whether one of them holds the position, and which.
-#[derive(Drop)]
+#[derive(Clone, Copy)]
 pub(crate) struct Seen {
     pub position: u64,
     pub edge: u32,

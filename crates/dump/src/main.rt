@@ -1,4 +1,6 @@
 // Writes the dump of standard input, of up to 32,768 bytes, to standard output.
+#![tactic(auto)]
+
 ghost use Rattle.std.specs.Prelude.{◌≤◌, ◌≡◌, length};
 ghost use Rattle.form.specs.Writing.{written, leaves};
 ghost use Rattle.form.specs.Listing.{listing};

@@ -1,4 +1,6 @@
 // The fast step: the next token of a window by its kind and length, with its number, length or id in eight held bytes.
+#![tactic(auto)]
+
 mod hold;
 
 ghost use Rattle.std.specs.Prelude.{◌≡◌, ◌+◌, ◌≤◌, length, take, replicate};
@@ -12,14 +14,14 @@ use lexeme::{LexemeId, TokenKind, number};
 use payload::{ReadId, ReadString, ReadU64};
 
 // The kind of the next token and its length; or not fast.
-#[derive(Drop)]
+#[derive(Clone, Copy)]
 pub enum Step {
     Fast(TokenKind, usize),
     Slow,
 }
 
 // A step, and the eight bytes that are held after it.
-#[derive(Drop)]
+#[derive(Clone, Copy)]
 pub struct FastToken {
     pub step: Step,
     pub held: [u8; 8],

@@ -1,4 +1,6 @@
 // The walk from key to key, over tokens that are told by their ids.
+#![tactic(auto)]
+
 ghost use Rattle.std.specs.Prelude.{◌≡◌, ◌-◌};
 ghost use Rattle.std.proofs.Math.Option.{none, some};
 ghost use Rattle.form.specs.Values.{Id};
@@ -12,7 +14,7 @@ use lexeme::{LexemeId, number};
 use payload::{LexError, ReadId, ReadRgb, ReadString};
 
 // Which keys are wanted: every one, or those that are a plain id.
-#[derive(Drop)]
+#[derive(Clone, Copy)]
 pub enum Wanted {
     Any,
     Plain(LexemeId),
@@ -41,7 +43,7 @@ impl Wanted {
 }
 
 // A key's place, and the place after it; that there is none; or why there is none, and the place of the token that is refused.
-#[derive(Drop)]
+#[derive(Clone, Copy)]
 pub enum Next {
     Key(usize, usize),
     End,
@@ -49,7 +51,7 @@ pub enum Next {
 }
 
 // What the walk goes by, of a token, and the place after it: one end of a container, Equal, a plain id, or anything else.
-#[derive(Drop)]
+#[derive(Clone, Copy)]
 enum Passed {
     Open(usize),
     Close(usize),

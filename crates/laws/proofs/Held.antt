@@ -40,9 +40,9 @@ module _ (p e : ℕ) where
   none-up-to : {q : ℕ} (l : List (ℕ × Value)) → p < q → Rising q e l → keys_up_to p l ≡ 0
   unfolding keys_up_to
   none-up-to [] h r = refl
-  none-up-to ((q, v) ∷ l) h r =
+  none-up-to {q = o} ((q, v) ∷ l) h r =
       let z : p < q + 2 = omega (arith, r.0) in
-      rw (lt-leb q p (omega (arith, r.0))) (omega (arith, none-up-to l z r.2))
+      rw (lt-leb q p (omega (arith, r.0))) (omega (arith, none-up-to {q = q + 2} l z r.2))
 
   none_yet_lem : (q : ℕ) (l : List (ℕ × Value)) → p < first_or e l → Rising q e l → keys_up_to p l ≡ 0
   none_yet_lem q [] h r = none-up-to [] h r

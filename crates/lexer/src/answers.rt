@@ -7,7 +7,7 @@ use payload::{LexError, Rgb, Text};
 use token::Token;
 
 // Why a read is refused, and the position.
-#[derive(Drop)]
+#[derive(Clone, Copy)]
 pub struct LexerError {
     pub position: usize,
     pub kind: LexError,
@@ -37,87 +37,87 @@ impl LexerError {
 }
 
 // Why a call is refused: the read is, or the offset is too large or the cursor past the input.
-#[derive(Drop)]
+#[derive(Clone, Copy)]
 pub enum Refusal {
     Lexed(LexerError),
     BadPlace(usize),
 }
 
-#[derive(Drop)]
+#[derive(Clone, Copy)]
 pub enum LexU8 {
     Got(u8, Lexer),
     Refused(Refusal),
 }
 
-#[derive(Drop)]
+#[derive(Clone, Copy)]
 pub enum LexU16 {
     Got(u16, Lexer),
     Refused(Refusal),
 }
 
-#[derive(Drop)]
+#[derive(Clone, Copy)]
 pub enum LexU32 {
     Got(u32, Lexer),
     Refused(Refusal),
 }
 
-#[derive(Drop)]
+#[derive(Clone, Copy)]
 pub enum LexU64 {
     Got(u64, Lexer),
     Refused(Refusal),
 }
 
-#[derive(Drop)]
+#[derive(Clone, Copy)]
 pub enum LexI32 {
     Got(i32, Lexer),
     Refused(Refusal),
 }
 
-#[derive(Drop)]
+#[derive(Clone, Copy)]
 pub enum LexI64 {
     Got(i64, Lexer),
     Refused(Refusal),
 }
 
-#[derive(Drop)]
+#[derive(Clone, Copy)]
 pub enum LexBool {
     Got(bool, Lexer),
     Refused(Refusal),
 }
 
-#[derive(Drop)]
+#[derive(Clone, Copy)]
 pub enum LexId {
     Got(LexemeId, Lexer),
     Refused(Refusal),
 }
 
-#[derive(Drop)]
+#[derive(Clone, Copy)]
 pub enum LexString {
     Got(Text, Lexer),
     Refused(Refusal),
 }
 
-#[derive(Drop)]
+#[derive(Clone, Copy)]
 pub enum LexRgb {
     Got(Rgb, Lexer),
     Refused(Refusal),
 }
 
-#[derive(Drop)]
+#[derive(Clone, Copy)]
 pub enum LexToken {
     Got(Token, Lexer),
     Refused(Refusal),
 }
 
 // The next one, or nothing at the end.
-#[derive(Drop)]
+#[derive(Clone, Copy)]
 pub enum NextId {
     Got(LexemeId, Lexer),
     Nothing,
     Refused(Refusal),
 }
 
-#[derive(Drop)]
+#[derive(Clone, Copy)]
 pub enum NextToken {
     Got(Token, Lexer),
     Nothing,
@@ -125,14 +125,14 @@ pub enum NextToken {
 }
 
 // What stands at the cursor, which stays.
-#[derive(Drop)]
+#[derive(Clone, Copy)]
 pub enum PeekId {
     Got(LexemeId),
     Nothing,
     Refused(Refusal),
 }
 
-#[derive(Drop)]
+#[derive(Clone, Copy)]
 pub enum PeekToken {
     Got(Token),
     Nothing,
@@ -140,21 +140,21 @@ pub enum PeekToken {
 }
 
 // The cursor's position in the file.
-#[derive(Drop)]
+#[derive(Clone, Copy)]
 pub enum LexPosition {
     Got(usize),
     Refused(Refusal),
 }
 
 // The cursor where a skip ended.
-#[derive(Drop)]
+#[derive(Clone, Copy)]
 pub enum LexSkip {
     Done(Lexer),
     Refused(Refusal, Lexer),
 }
 
 // Where a key stands, the first of its id.
-#[derive(Drop)]
+#[derive(Clone, Copy)]
 pub enum LexFind {
     Found(usize),
     Absent,

@@ -1,4 +1,6 @@
 // The lexer: a cursor by value, whose calls take the input and give the next cursor with the answer.
+#![tactic(auto)]
+
 pub mod answers;
 mod finding;
 mod parts;
@@ -21,14 +23,14 @@ pub use crate::answers::{
 use payload::LexError;
 
 // The place in the input where the next call begins, and the offset of the input's first byte in the file.
-#[derive(Drop)]
+#[derive(Clone, Copy)]
 pub struct Lexer {
     pub at: usize,
     pub offset: usize,
 }
 
 // Where a cursor stands: outside, with the refusal of every call from there.
-#[derive(Drop)]
+#[derive(Clone, Copy)]
 enum Place {
     Inside,
     Outside(Refusal),

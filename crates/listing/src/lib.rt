@@ -1,4 +1,6 @@
 // The dump's text of a save, into a lent output.
+#![tactic(auto)]
+
 mod line;
 mod tally;
 
@@ -18,7 +20,7 @@ use text::{put, put_all, put_error, put_field, put_number};
 use token::ReadToken;
 
 // The number of bytes written; or the number needed, or that of an input that is too long.
-#[derive(Drop)]
+#[derive(Clone, Copy)]
 pub enum Listed {
     Written(usize),
     NoRoom(usize),

@@ -11,7 +11,7 @@ use text::{put, put_decimal, put_le, put_number, put_signed, put_text, put_truth
 use token::Token;
 
 // What shows a value.
-#[derive(Drop)]
+#[derive(Clone, Copy)]
 enum Shape {
     Nothing,
     Number(u64),
@@ -23,7 +23,7 @@ enum Shape {
 }
 
 // The name of a kind, in the first bytes of eight, and what shows the value.
-#[derive(Drop)]
+#[derive(Clone, Copy)]
 struct Shown {
     pub name: [u8; 8],
     pub len: usize,

@@ -10,7 +10,7 @@ use token::Token;
 
 // What has been counted up to a place, and the depth there; of the token before it, whether it is Equal, whether it is itself directly after an
 // Equal, and whether what follows can make a key of it.
-#[derive(Drop)]
+#[derive(Clone, Copy)]
 pub(crate) struct Tally {
     pub tokens: usize,
     pub containers: usize,

@@ -1,4 +1,6 @@
 // Writes the normal form of standard input, of up to 8,192 bytes, to standard output; or the line of its first refusal.
+#![tactic(auto)]
+
 ghost use Rattle.std.specs.Prelude.{◌≤◌, ◌≡◌, length};
 ghost use Rattle.form.specs.Refusals as R;
 ghost use Rattle.form.specs.Writing.{written, leaves};

@@ -1,4 +1,6 @@
 // The whole save in normal form, into a lent output; in its shortest spelling; and what can be rescued of a clipped one.
+#![tactic(auto)]
+
 mod rescuing;
 mod shortening;
 mod spelling;
@@ -22,7 +24,7 @@ use payload::LexError;
 use token::ReadToken;
 use writer::Wrote;
 
-#[derive(Drop)]
+#[derive(Clone, Copy)]
 pub enum Normalised {
     Written(usize),
     Eof(usize, usize),
@@ -50,7 +52,7 @@ fn place(need: usize, room: usize) -> usize
 }
 
 // The place after a token, and how many bytes it is spelled by; or its refusal.
-#[derive(Drop)]
+#[derive(Clone, Copy)]
 enum Respelled {
     To(usize, usize),
     Refused(Normalised),

@@ -13,14 +13,14 @@ use crate::telling::Passed;
 use lexeme::LexemeId;
 
 // How many bytes were cut off at the end, how many strays were left out, and how many Closes were added.
-#[derive(Drop)]
+#[derive(Clone, Copy)]
 pub struct Report {
     pub cut: usize,
     pub strays: usize,
     pub closes: usize,
 }
 
-#[derive(Drop)]
+#[derive(Clone, Copy)]
 pub enum Rescued {
     Written(usize, Report),
     NoRoom(usize),
@@ -28,7 +28,7 @@ pub enum Rescued {
 }
 
 // Where a stretch of tokens without a stray ends: at a stray, or where reading does, with so many containers open.
-#[derive(Drop)]
+#[derive(Clone, Copy)]
 enum Ending {
     Stray(usize),
     End(usize, usize),
@@ -78,7 +78,7 @@ fn put_closes(out: &mut [u8], need: usize, count: usize) -> usize
 }
 
 // How many bytes are kept and added, and what is told of them.
-#[derive(Drop)]
+#[derive(Clone, Copy)]
 struct Survey {
     need: usize,
     report: Report,

@@ -13,7 +13,7 @@ use payload::LexError;
 use token::{ReadToken, Token};
 use writer::Wrote;
 
-#[derive(Drop)]
+#[derive(Clone, Copy)]
 pub enum Shortened {
     Written(usize),
     Eof(usize, usize),

@@ -7,7 +7,7 @@ ghost use Rattle.normaliser.specs.Spellings.{Below, Within, Floats, Indexes, Spe
 use lexeme::{LexemeId, number};
 use payload::{ReadId, ReadRgb, ReadString, ReadU8, ReadU16, ReadU32, ReadU64};
 
-#[derive(Drop)]
+#[derive(Clone, Copy)]
 enum Spelling {
     // As it stands, up to a place.
     Stands(usize),
@@ -19,7 +19,7 @@ enum Spelling {
 }
 
 // Up to where tokens stand as they are spelled, and how the one after them is spelled.
-#[derive(Drop)]
+#[derive(Clone, Copy)]
 pub(crate) enum Run {
     F64(usize, u64, usize),
     Lookup(usize, u32, usize),

@@ -10,7 +10,7 @@ use lexeme::{LexemeId, number};
 use payload::{ReadId, ReadRgb, ReadString};
 
 // One end of a container or anything else, and the place after it; or nothing that can be read.
-#[derive(Drop)]
+#[derive(Clone, Copy)]
 pub(crate) enum Passed {
     Open(usize),
     Close(usize),

@@ -5,27 +5,27 @@ ghost use Rattle.payload.specs.Answers.{fault_of, why, short_by, u8_answer, u16_
 use lexeme::LexemeId;
 
 // Why a read is refused: so many bytes are missing, or a colour is none.
-#[derive(Drop)]
+#[derive(Clone, Copy)]
 pub enum LexError {
     Eof(usize),
     InvalidRgb,
 }
 
 // Where the text of a string stands in the input.
-#[derive(Drop)]
+#[derive(Clone, Copy)]
 pub struct Text {
     pub start: usize,
     pub len: usize,
 }
 
 // The fourth channel of a colour.
-#[derive(Drop)]
+#[derive(Clone, Copy)]
 pub enum Alpha {
     Absent,
     Given(u32),
 }
 
-#[derive(Drop)]
+#[derive(Clone, Copy)]
 pub struct Rgb {
     pub r: u32,
     pub g: u32,
@@ -33,7 +33,7 @@ pub struct Rgb {
     pub a: Alpha,
 }
 
-#[derive(Drop)]
+#[derive(Clone, Copy)]
 pub enum ReadU8 {
     Got(u8, usize),
     Eof(usize),
@@ -51,7 +51,7 @@ impl ReadU8 {
     }
 }
 
-#[derive(Drop)]
+#[derive(Clone, Copy)]
 pub enum ReadU16 {
     Got(u16, usize),
     Eof(usize),
@@ -69,7 +69,7 @@ impl ReadU16 {
     }
 }
 
-#[derive(Drop)]
+#[derive(Clone, Copy)]
 pub enum ReadU32 {
     Got(u32, usize),
     Eof(usize),
@@ -87,7 +87,7 @@ impl ReadU32 {
     }
 }
 
-#[derive(Drop)]
+#[derive(Clone, Copy)]
 pub enum ReadU64 {
     Got(u64, usize),
     Eof(usize),
@@ -105,7 +105,7 @@ impl ReadU64 {
     }
 }
 
-#[derive(Drop)]
+#[derive(Clone, Copy)]
 pub enum ReadI32 {
     Got(i32, usize),
     Eof(usize),
@@ -123,7 +123,7 @@ impl ReadI32 {
     }
 }
 
-#[derive(Drop)]
+#[derive(Clone, Copy)]
 pub enum ReadI64 {
     Got(i64, usize),
     Eof(usize),
@@ -141,7 +141,7 @@ impl ReadI64 {
     }
 }
 
-#[derive(Drop)]
+#[derive(Clone, Copy)]
 pub enum ReadBool {
     Got(bool, usize),
     Eof(usize),
@@ -159,7 +159,7 @@ impl ReadBool {
     }
 }
 
-#[derive(Drop)]
+#[derive(Clone, Copy)]
 pub enum ReadId {
     Got(LexemeId, usize),
     Eof(usize),
@@ -177,7 +177,7 @@ impl ReadId {
     }
 }
 
-#[derive(Drop)]
+#[derive(Clone, Copy)]
 pub enum ReadString {
     Got(Text, usize),
     Eof(usize),
@@ -195,7 +195,7 @@ impl ReadString {
     }
 }
 
-#[derive(Drop)]
+#[derive(Clone, Copy)]
 pub enum ReadRgb {
     Got(Rgb, usize),
     Eof(usize),

@@ -9,13 +9,13 @@ use crate::answers::{Alpha, ReadId, ReadRgb, ReadString, ReadU32, Rgb};
 use lexeme::{LexemeId, number};
 
 // An id and the four bytes after it.
-#[derive(Drop)]
+#[derive(Clone, Copy)]
 struct Channel {
     pub id: LexemeId,
     pub value: u32,
 }
 
-#[derive(Drop)]
+#[derive(Clone, Copy)]
 enum ReadChannel {
     Got(Channel, usize),
     Eof(usize),

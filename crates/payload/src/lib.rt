@@ -1,4 +1,6 @@
 // Payload reads: a slice and a place in, an answer of our own out. No position is known here.
+#![tactic(auto)]
+
 pub mod answers;
 pub mod bits;
 mod colour;

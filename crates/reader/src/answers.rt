@@ -9,14 +9,14 @@ use source::{Ensured, ParserError};
 use token::Token;
 
 // A text is where it stands in the bytes that hold the window: of a stream in the buffer, until the next call.
-#[derive(Drop)]
+#[derive(Clone, Copy)]
 pub enum StreamToken {
     Got(Token, TokenReader),
     Refused(ParserError, TokenReader),
 }
 
 // The same, or nothing at the end.
-#[derive(Drop)]
+#[derive(Clone, Copy)]
 pub enum NextStreamToken {
     Got(Token, TokenReader),
     Nothing(TokenReader),

@@ -1,4 +1,6 @@
 // The token reader: tokens of a source, whose bytes are asked for as each token shows that it needs them.
+#![tactic(auto)]
+
 pub mod answers;
 
 ghost use Rattle.std.specs.Prelude.{◌≡◌, ◌-◌, ◌≤◌, length};
@@ -17,7 +19,7 @@ use source::{Ensured, ParserError, ParserSource, WindowLen};
 use token::ReadToken;
 
 // The source that the tokens come from.
-#[derive(Drop)]
+#[derive(Clone, Copy)]
 pub struct TokenReader {
     pub source: ParserSource,
 }

@@ -1,5 +1,7 @@
 // Replays the answers of the original that the file `answers` has, one a line, through the library. Prints the number of each line
 // whose answer differs or that cannot be read, how many answers there were of each group of calls, and how many in all.
+#![tactic(auto)]
+
 mod calls;
 mod line;
 mod lists;

@@ -1,4 +1,6 @@
 // Skipping a value or a container: a walk over ids.
+#![tactic(auto)]
+
 mod walk;
 
 ghost use Rattle.std.specs.Prelude.{◌≡◌};
@@ -9,7 +11,7 @@ use lexeme::LexemeId;
 use payload::{LexError, ReadRgb};
 
 // The place after what was skipped; or why it was not, and the place where the failing read began.
-#[derive(Drop)]
+#[derive(Clone, Copy)]
 pub enum Skipped {
     To(usize),
     Refused(LexError, usize),

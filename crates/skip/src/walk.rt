@@ -12,7 +12,7 @@ use lexeme::{LexemeId, number};
 use payload::{LexError, ReadId, ReadString};
 
 // After an id and its payload: on at a depth, out of the value that the walk began with, or the payload's refusal.
-#[derive(Drop)]
+#[derive(Clone, Copy)]
 enum Turn {
     On(usize, u64),
     Out(usize),

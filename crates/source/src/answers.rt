@@ -9,7 +9,7 @@ use lexeme::LexemeId;
 use payload::{Rgb, Text};
 
 // Why a call is refused: the position, and with Eof how many bytes are missing; or the number that does not fit.
-#[derive(Drop)]
+#[derive(Clone, Copy)]
 pub enum ParserError {
     Eof(usize, usize),
     InvalidRgb(usize),
@@ -34,7 +34,7 @@ impl ParserError {
 }
 
 // A refusal, and the state that it leaves.
-#[derive(Drop)]
+#[derive(Clone, Copy)]
 pub struct Stop {
     pub error: ParserError,
     pub next: ParserSource,
@@ -57,7 +57,7 @@ impl Stop {
     }
 }
 
-#[derive(Drop)]
+#[derive(Clone, Copy)]
 pub enum Ensured {
     Ready(ParserSource),
     Refused(Stop),
@@ -78,26 +78,26 @@ impl Ensured {
     }
 }
 
-#[derive(Drop)]
+#[derive(Clone, Copy)]
 pub enum Refilled {
     Read(usize, ParserSource),
     Refused(Stop),
 }
 
-#[derive(Drop)]
+#[derive(Clone, Copy)]
 pub enum Advanced {
     Moved(bool, ParserSource),
     Refused(Stop),
 }
 
-#[derive(Drop)]
+#[derive(Clone, Copy)]
 pub enum WindowLen {
     Got(usize),
     Refused(ParserError),
 }
 
 // Where the bytes taken stand, in the bytes that hold the window.
-#[derive(Drop)]
+#[derive(Clone, Copy)]
 pub enum Taken {
     Got(Text, ParserSource),
     Refused(Stop),
@@ -116,7 +116,7 @@ impl Taken {
 }
 
 // The same, or nothing at the end.
-#[derive(Drop)]
+#[derive(Clone, Copy)]
 pub enum Tried {
     Got(Text, ParserSource),
     Nothing(ParserSource),
@@ -136,7 +136,7 @@ impl Tried {
     }
 }
 
-#[derive(Drop)]
+#[derive(Clone, Copy)]
 pub enum TakenId {
     Got(LexemeId, ParserSource),
     Refused(Stop),
@@ -156,14 +156,14 @@ impl TakenId {
     }
 }
 
-#[derive(Drop)]
+#[derive(Clone, Copy)]
 pub enum PeekedId {
     Got(LexemeId, ParserSource),
     Nothing(ParserSource),
     Refused(Stop),
 }
 
-#[derive(Drop)]
+#[derive(Clone, Copy)]
 pub(crate) enum TakenU32 {
     Got(u32, ParserSource),
     Refused(Stop),
@@ -183,7 +183,7 @@ impl TakenU32 {
     }
 }
 
-#[derive(Drop)]
+#[derive(Clone, Copy)]
 pub enum TakenRgb {
     Got(Rgb, ParserSource),
     Refused(Stop),

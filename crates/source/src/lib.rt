@@ -1,4 +1,6 @@
 // The window: a source of bytes over a lent buffer, a supply and a schedule.
+#![tactic(auto)]
+
 pub mod answers;
 mod binary;
 mod reads;
@@ -18,7 +20,7 @@ use payload::Text;
 
 // The unread bytes are those from start to end, of the buffer or, of a slice, of the supply. So many bytes of the supply are handed over and
 // so many entries of the schedule used; position bytes are read.
-#[derive(Drop)]
+#[derive(Clone, Copy)]
 pub struct ParserSource {
     pub start: usize,
     pub end: usize,
@@ -29,7 +31,7 @@ pub struct ParserSource {
 }
 
 // Whether the numbers of a state fit, or the first that does not.
-#[derive(Drop)]
+#[derive(Clone, Copy)]
 pub(crate) enum Check {
     Fine,
     Bad(usize),

@@ -4,7 +4,7 @@ ghost use Rattle.std.proofs.lemmas.List.Edits.{sets};
 ghost use Rattle.source.specs.Reads.{one, fill};
 
 // What reads gave: so many bytes, by so many entries of the schedule; the last of them may have failed.
-#[derive(Drop)]
+#[derive(Clone, Copy)]
 pub(crate) struct Reads {
     pub got: usize,
     pub used: usize,

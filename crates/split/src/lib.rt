@@ -1,8 +1,10 @@
 // Splitting bytes after a count.
+#![tactic(auto)]
+
 ghost use Rattle.std.specs.Prelude.{◌≡◌, length, drop};
 ghost use Rattle.split.specs.Splits.{splits, split_at, head_of, rest_of};
 
-#[derive(Drop)]
+#[derive(Clone, Copy)]
 pub enum Split {
     At(usize),
     Nothing,

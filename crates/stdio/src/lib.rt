@@ -1,4 +1,6 @@
 // A program's input and output: all of an input read, all of an output written. A call that a signal interrupts is made again.
+#![tactic(auto)]
+
 ghost use Rattle.std.specs.Prelude.{◌≤◌, length};
 ghost use Rattle.stdio.specs.Within.{IsWithin};
 
@@ -8,7 +10,7 @@ use libc::{EINTR, STDERR_FILENO, STDOUT_FILENO};
 const AGAIN: u64 = u64::MAX;
 
 // How many bytes came, at the front of the buffer.
-#[derive(Drop)]
+#[derive(Clone, Copy)]
 pub enum Input {
     Got(usize),
     Failed,

@@ -1,5 +1,7 @@
 // Text into a lent output at a place. Past the end of the output nothing is stored, and the place still counts, up to the
 // largest number: so the same functions measure, on an output of no bytes, and write.
+#![tactic(auto)]
+
 ghost use Rattle.std.specs.Prelude.{◌≡◌, [], ◌∷◌, ◌<◌, nat_abs};
 ghost use Rattle.form.specs.Numbers.{le_bytes};
 ghost use Rattle.form.specs.Put.{Put};

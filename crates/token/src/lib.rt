@@ -1,4 +1,6 @@
 // Tokens: a slice and a place in, a token and the place after it out.
+#![tactic(auto)]
+
 mod texts;
 
 ghost use Rattle.std.specs.Prelude.{◌≡◌};
@@ -21,7 +23,7 @@ use payload::{
 pub const LIMIT: usize = 2147483648;
 
 // A string is where its text stands; a float is the number that its bytes spell.
-#[derive(Drop)]
+#[derive(Clone, Copy)]
 pub enum Token {
     Open,
     Close,
@@ -41,7 +43,7 @@ pub enum Token {
 }
 
 // The place after the token comes first, where a refusal has its number: so the two share a register.
-#[derive(Drop)]
+#[derive(Clone, Copy)]
 pub enum ReadToken {
     Got(usize, Token),
     Eof(usize),

@@ -6,7 +6,7 @@ ghost use Rattle.token.specs.Texts.{place_answer, place_of};
 use payload::Text;
 
 // Whether a text lies within the bytes; a text at a bad place is named by its start.
-#[derive(Drop)]
+#[derive(Clone, Copy)]
 pub enum TextAnswer {
     Within,
     BadPlace(usize),

@@ -7,7 +7,7 @@ use lexeme::{LexemeId, number};
 use payload::{Rgb, Text, bits};
 use token::Token;
 
-#[derive(Drop)]
+#[derive(Clone, Copy)]
 pub(crate) enum Layout {
     // An id and a number of so many bytes: of none, where the id stands alone.
     Number(LexemeId, u8, u64),

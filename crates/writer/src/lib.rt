@@ -1,4 +1,6 @@
 // The checked writer: one token at the front of a lent output, or bytes that are spelled already, or an id and a number.
+#![tactic(auto)]
+
 mod layout;
 mod put;
 
@@ -13,7 +15,7 @@ use lexeme::LexemeId;
 use payload::{Alpha, Text};
 use token::{TextAnswer, Token};
 
-#[derive(Drop)]
+#[derive(Clone, Copy)]
 pub enum Wrote {
     Written(usize),
     LongString(usize),

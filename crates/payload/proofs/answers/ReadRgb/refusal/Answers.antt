@@ -1,0 +1,12 @@
+-- `payload::answers::ReadRgb::refusal` meets its contract. Assumes nothing.
+use borrow.Author.Rules.{rules}
+use Rattle.payload.proofs.answers.ReadRgb.refusal.Goals as goal
+
+pub returns-in-Got : goal.returns-in-Got
+returns-in-Got c = search rules
+
+pub returns-in-Eof : goal.returns-in-Eof
+returns-in-Eof c = cc
+
+pub returns-in-InvalidRgb : goal.returns-in-InvalidRgb
+returns-in-InvalidRgb c = search rules
