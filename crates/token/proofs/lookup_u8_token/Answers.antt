@@ -1,0 +1,13 @@
+-- `token::lookup_u8_token` meets its contract. Assumes nothing.
+use mathlib.Core.Path.{refl}
+use Rattle.payload.specs.Answers.{u8_answer}
+use Rattle.token.specs.declared.Token.TheVariants as T
+use Rattle.token.proofs.Payloads.{getting, refusing}
+use borrow.Author.Rules.{rules}
+use Rattle.token.proofs.lookup_u8_token.Goals as goal
+
+pub returns-in_default : goal.returns-in_default
+returns-in_default c = refusing u8_answer (λ _. T.Lookup) c.in_default.is c.missing.ensures refl
+
+pub returns : goal.returns
+returns c = getting u8_answer (λ _. T.Lookup) c.in-Got.is refl

@@ -1,0 +1,13 @@
+-- `token::quoted_token` meets its contract. Assumes nothing.
+use mathlib.Core.Path.{refl}
+use Rattle.payload.specs.Answers.{text_answer}
+use Rattle.token.specs.declared.Token.TheVariants as T
+use Rattle.token.proofs.Payloads.{getting, refusing}
+use borrow.Author.Rules.{rules}
+use Rattle.token.proofs.quoted_token.Goals as goal
+
+pub returns-in_default : goal.returns-in_default
+returns-in_default c = refusing text_answer (λ _. T.Quoted) c.in_default.is c.missing.ensures refl
+
+pub returns : goal.returns
+returns c = getting text_answer (λ _. T.Quoted) c.in-Got.is refl
