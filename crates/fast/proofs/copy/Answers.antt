@@ -1,0 +1,6 @@
+-- `fast::copy` meets its contract. Assumes nothing.
+use borrow.Author.Rules.{rules}
+use Rattle.fast.proofs.copy.Goals as goal
+
+pub returns : goal.returns
+returns c = rw c.hold-bytes.ensures

@@ -1,0 +1,12 @@
+-- `keys::string` meets its contract. Assumes nothing.
+use borrow.Author.Rules.{rules}
+use mathlib.Core.Path.{refl}
+use Rattle.payload.specs.Answers.{text_of, text_answer}
+use Rattle.payload.proofs.LetElse.{got_of, lack_of, placed-found, placed-refused}
+use Rattle.keys.proofs.string.Goals as goal
+
+pub returns-in_default : goal.returns-in_default
+returns-in_default c = record { is = placed-refused text_of _ (lack_of text_answer c.read_string-text.ensures c.in_default.is c.missing.ensures refl) }
+
+pub returns : goal.returns
+returns c = record { is = placed-found text_of _ (got_of text_answer c.read_string-text.ensures c.in-Got.is) }

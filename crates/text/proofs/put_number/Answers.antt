@@ -1,0 +1,7 @@
+-- `text::put_number` meets its contract. Assumes nothing.
+use borrow.Author.Rules.{rules}
+use Rattle.text.proofs.Words.{put-spaced}
+use Rattle.text.proofs.put_number.Goals as goal
+
+pub returns : goal.returns
+returns c = put-spaced c.put-next.ensures c.put_decimal.ensures
