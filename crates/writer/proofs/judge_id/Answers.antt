@@ -11,15 +11,15 @@ use Rattle.writer.proofs.judge_id.Goals as goal
 
 pub returns-then-is_id : goal.returns-then-is_id
 unfolding write_by misplaced_by reason_by spelled_by unless outcome
-returns c s =
-    let x = c.before.before.before.before.args.x in
+returns-then-is_id c s =
+    let x = c.args.x in
     let plain : reserved x ≡ false =
-    not-true _ (sym (ap (λ i. not (reserved i)) c.before.before.before.new.ensures) ∙ sym c.before.before.is-id.ensures ∙ c.before.if1.true) in
-    rw plain (c.judge-plain.ensures _ (length-bytes 2 x))
+    not-true _ (sym (ap (λ i. not (reserved i)) c.new-id.ensures) ∙ sym c.is_id.ensures ∙ c.if-is_id.true) in
+    rw plain (c.judge_plain.ensures _ (length-bytes 2 x))
 
 pub returns : goal.returns
 unfolding write_by misplaced_by reason_by spelled_by unless outcome
-returns-2 c s =
-    let taken : reserved c.before.before.before.args.x ≡ true =
-    not-false _ (sym (ap (λ i. not (reserved i)) c.before.before.new.ensures) ∙ sym c.before.is-id.ensures ∙ c.if1.false) in
+returns c s =
+    let taken : reserved c.args.x ≡ true =
+    not-false _ (sym (ap (λ i. not (reserved i)) c.new-id.ensures) ∙ sym c.is_id.ensures ∙ c.if-is_id.false) in
     rw taken

@@ -8,10 +8,10 @@ use Rattle.writer.proofs.judge_lookup.Goals as goal
 
 pub returns-then-is_narrow : goal.returns-then-is_narrow
 unfolding write_by misplaced_by reason_by spelled_by unless outcome
-returns c s =
-    let narrow = sym c.before.before.is-narrow.ensures ∙ c.before.if1.true in
-    rw narrow (c.fit.ensures _ (number_size _ 3 c.before.before.before.args.n))
+returns-then-is_narrow c s =
+    let narrow = sym c.is_narrow.ensures ∙ c.if-is_narrow.true in
+    rw narrow (c.fit.ensures _ (number_size _ 3 c.args.n))
 
 pub returns : goal.returns
 unfolding write_by misplaced_by reason_by spelled_by unless outcome
-returns-2 c s = rw (sym c.before.is-narrow.ensures ∙ c.if1.false)
+returns c s = rw (sym c.is_narrow.ensures ∙ c.if-is_narrow.false)

@@ -11,15 +11,13 @@ use Rattle.writer.proofs.put.layout.Goals as goal
 pub id_number-requires : goal.id_number-requires
 unfolding spelled_by
 id_number-requires c =
-    let g = c.p-1.given in
-    omega (arith, rw g.1 at c.requires, number_size g.0.0.0 g.0.1.0 g.0.1.1.0)
+    omega (arith, rw c.in-Number.is at c.requires, number_size c.in-Number.x.0 c.in-Number.width c.in-Number.n)
 
 pub id_text-requires : goal.id_text-requires
 unfolding spelled_by
 id_text-requires c =
-    let g = c.p-in-Text-1.given in
     rw c.text_part-text.ensures
-    (omega (arith, rw g.1 at c.requires, text-size g.0.0.0 (part_of c.args.bytes.now g.0.1.0)))
+    (omega (arith, rw c.in-Text.is at c.requires, text-size c.in-Text.x.0 (part_of c.args.bytes.now c.in-Text.t)))
 
 pub id-requires : goal.id-requires
 unfolding spelled_by
@@ -28,8 +26,7 @@ id-requires c = omega (arith, rw c.in-Empty.is at c.requires, length-bytes 2 0x0
 pub id_number-requires-in-Lookup : goal.id_number-requires-in-Lookup
 unfolding spelled_by
 id_number-requires-in-Lookup c =
-    let g = c.p-in-Lookup-1.given in
-    omega (arith, rw g.1 at c.requires, number_size 0x0d41 3 g.0.0)
+    omega (arith, rw c.in-Lookup.is at c.requires, number_size 0x0d41 3 c.in-Lookup.n)
 
 pub id_colour-requires : goal.id_colour-requires
 unfolding spelled_by

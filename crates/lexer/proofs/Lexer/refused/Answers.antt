@@ -1,0 +1,24 @@
+-- `lexer::Lexer::refused` meets its contract. Assumes nothing.
+use borrow.Author.Rules.{rules}
+use mathlib.Core.Path.{sym, ap, ◌∙◌}
+use Rattle.form.specs.Calls.{refuses, ended, reads}
+use Rattle.laws.proofs.Cursors.{within_in}
+use Rattle.lexer.specs.Calls.{cursor_of}
+use Rattle.lexer.proofs.Endings.{told-inside, told-outside, stands}
+use Rattle.lexer.proofs.Lexer.refused.Goals as goal
+
+pub located-requires : goal.located-requires
+located-requires c = stands _ _ (told-inside _ _ c.place-p.ensures c.in-Inside.is)
+
+pub returns-in-Inside : goal.returns-in-Inside
+unfolding reads ended
+returns-in-Inside c =
+    let a = c.args in
+    let h = told-inside a.self _ c.place-p.ensures c.in-Inside.is in
+    ap (λ r. refuses r (cursor_of a.self)) c.located.ensures ∙ sym (within_in _ _ h)
+
+pub returns-in-Outside : goal.returns-in-Outside
+unfolding reads
+returns-in-Outside c =
+    let a = c.args in
+    told-outside a.self _ c.place-p.ensures c.in-Outside.is _
