@@ -27,9 +27,9 @@ else_of answer stop_of {buffer = buffer} p q h d =
     got_of answer p q ∙ d ∙ ap (λ (y : Stop). stop_answer y buffer) (sym (h ∙ ap stop_of q))
 
 -- a refusal, for the optional forms
-pub or_nothing : (x : Stop) (buffer : List ℕ) → attempted (stop_answer x buffer) ≡ tried_answer (or_nothing x) buffer
+pub stopped : (x : Stop) (buffer : List ℕ) → attempted (stop_answer x buffer) ≡ tried_answer (or_nothing x) buffer
 unfolding attempted
-or_nothing x buffer = by (is_eof (refusal_of x.error) && leb x.next.end x.next.start)
+stopped x buffer = by (is_eof (refusal_of x.error) && leb x.next.end x.next.start)
   where
     by : (b : Bool) → pick b (drawn none x.next buffer) (stop_answer x buffer) ≡ tried_answer (pick b (Y.Nothing x.next) (Y.Refused x)) buffer
     by true = refl
@@ -42,7 +42,7 @@ module _ (supply schedule : List ℕ) (n : ℕ) (s : ParserSource) (buffer : Lis
 
   pub tried-stop : (x : Stop) {b : List ℕ} → taken supply schedule n s buffer ≡ stop_answer x b → tried supply schedule n s buffer ≡ tried_answer (or_nothing x) b
   unfolding tried
-  tried-stop x {b} e = ap attempted e ∙ or_nothing x b
+  tried-stop x {b} e = ap attempted e ∙ stopped x b
 
   pub peeked-ready : {t : ParserSource} {b : List ℕ} → ensured supply schedule n s buffer ≡ drawn tt t b → peeked supply schedule n s buffer ≡ drawn (some (text_at t.start n)) t b
   unfolding peeked ◌then◌ drawn_then attempted
@@ -50,7 +50,7 @@ module _ (supply schedule : List ℕ) (n : ℕ) (s : ParserSource) (buffer : Lis
 
   pub peeked-stop : (x : Stop) {b : List ℕ} → ensured supply schedule n s buffer ≡ stop_answer x b → peeked supply schedule n s buffer ≡ tried_answer (or_nothing x) b
   unfolding peeked ◌then◌ drawn_then
-  peeked-stop x {b} e = ap (λ (y : Drawn (Unit {0})). attempted (drawn_then y (λ _ t c. drawn (text_at t.start n) t c))) e ∙ or_nothing x b
+  peeked-stop x {b} e = ap (λ (y : Drawn (Unit {0})). attempted (drawn_then y (λ _ t c. drawn (text_at t.start n) t c))) e ∙ stopped x b
 
 -- a number that is there is not refused
 pub found-not-refused : {A B : Type 0} {a : B} {n : ℕ} {e : Fault} → found a n ≡ refused e → A

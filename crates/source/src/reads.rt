@@ -13,8 +13,8 @@ pub(crate) struct Reads {
 
 // The len bytes of a part, copied into the output.
 fn put_part(out: &mut [u8], at: usize, part: &[u8], start: usize, len: usize)
-    requires len_in_bounds { at + len ≤ length out.old }
-    requires len_in_bounds_2 { start + len ≤ length part.now }
+    requires out_in_bounds { at + len ≤ length out.old }
+    requires part_in_bounds { start + len ≤ length part.now }
     ensures { out.new ≡ sets out.old at (take len (drop start part.now)) }
 {
     let mut j = start;
@@ -110,7 +110,7 @@ pub(crate) fn fill_up(
 ) -> Reads
     requires at_in_bounds { at ≤ length buffer.old }
     requires from_in_bounds { from ≤ length supply.now }
-    requires in_bounds { entry ≤ length schedule.now }
+    requires entry_in_bounds { entry ≤ length schedule.now }
     ensures { (result ≡ fill (length buffer.old - at) (length supply.now - from) (drop entry schedule.now))
         × (buffer.new ≡ sets buffer.old at (take result.got (drop from supply.now))) }
 {

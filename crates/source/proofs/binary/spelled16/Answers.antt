@@ -1,0 +1,15 @@
+-- `source::binary::spelled16` meets its contract. Assumes nothing.
+use mathlib.Core.Path.{sym, ap, ◌∙◌}
+use Rattle.laws.proofs.Places.{took, num-there}
+use Rattle.payload.specs.Answers.{u16_answer}
+use Rattle.source.proofs.Answered.{found-not-refused}
+use Rattle.source.proofs.binary.spelled16.Goals as goal
+
+pub returns-in-Got : goal.returns-in-Got
+returns-in-Got c =
+    let a = c.args in
+    (took 2 a.bytes.now a.at (sym c.read_lookup_u16-r.ensures ∙ ap u16_answer c.in-Got.is)).value
+
+pub returns-in-Eof : goal.returns-in-Eof
+returns-in-Eof c =
+    found-not-refused (sym (num-there 2 c.args.bytes.now c.args.at c.requires) ∙ sym c.read_lookup_u16-r.ensures ∙ ap u16_answer c.in-Eof.is)
