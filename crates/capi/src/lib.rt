@@ -18,6 +18,5 @@ mod source_replies;
 pub mod sources;
 mod states;
 pub mod stepping;
-pub mod streaming;
 mod token_replies;
 pub mod writing;

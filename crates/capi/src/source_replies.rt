@@ -3,7 +3,7 @@ ghost use Rattle.std.specs.Prelude.{◌≡◌, [], ◌∷◌, ◌≤◌, length}
 ghost use Rattle.source.specs.Answers.{refusal_of, ensured_answer, refilled_answer, advanced_answer, window_len_answer, taken_answer, tried_answer, id_answer, peeked_id_answer, rgb_answer};
 ghost use Rattle.capi.specs.Replies as Replies;
 ghost use Rattle.capi.specs.Replies.{returned, into, reply_of, reply_or_none};
-ghost use Rattle.capi.specs.Words.{no_words, number_words, bool_words, text_words, colour_words, token_words};
+ghost use Rattle.capi.specs.Words.{no_words, number_words, bool_words, text_words, colour_words};
 ghost use Rattle.capi.specs.Code.{as_reply};
 ghost use Rattle.capi.specs.Sources.{with_state, source_reply, source_reply_of, source_reply_to, as_part};
 
@@ -13,7 +13,6 @@ use source::{
     Advanced, Ensured, ParserError, ParserSource, PeekedId, Refilled, Stop, Taken, TakenId,
     TakenRgb, Tried, WindowLen,
 };
-use token::Token;
 
 #[derive(Clone, Copy)]
 pub(crate) struct SourceReply {
@@ -31,8 +30,7 @@ fn got(s: ParserSource, a: u64, b: u64) -> SourceReply
     }
 }
 
-// There is none.
-pub(crate) fn nothing(s: ParserSource) -> SourceReply
+fn nothing(s: ParserSource) -> SourceReply
     ensures { source_reply_of result ≡ source_reply (Replies.absent s.position) s }
 {
     SourceReply {
@@ -59,7 +57,7 @@ fn refused(at: usize, x: ParserError) -> Reply
     }
 }
 
-pub(crate) fn stopped(x: Stop) -> SourceReply
+fn stopped(x: Stop) -> SourceReply
     ensures { source_reply_of result ≡ source_reply (Replies.refused x.next.position (refusal_of x.error)) x.next }
 {
     let error = x.error;
@@ -164,16 +162,6 @@ pub(crate) fn of_rgb(r: TakenRgb) -> SourceReply
             next: s,
         },
         TakenRgb::Refused(x) => stopped(x),
-    }
-}
-
-// A token, and the state after it.
-pub(crate) fn token(s: ParserSource, t: Token) -> SourceReply
-    ensures { source_reply_of result ≡ source_reply (Replies.answered s.position (token_words t)) s }
-{
-    SourceReply {
-        reply: token_replies::of_token(s.position, t),
-        next: s,
     }
 }
 
