@@ -1,0 +1,8 @@
+-- `contents::filling::put_start` meets its contract. Assumes nothing.
+use borrow.Author.Rules.{rules}
+use native.Mathlib.Omega.{arith}
+use mathlib.Core.Path.{◌∙◌}
+use Rattle.contents.proofs.filling.put_start.Goals as goal
+
+pub returns : goal.returns
+returns c = c.put.ensures ∙ rw c.put_end.ensures
