@@ -1,5 +1,4 @@
 -- `contents::entries::count` meets its contract. Assumes nothing.
-use borrow.Author.Rules.{rules}
 use mathlib.Core.Path.{sym, ap, ◌∙◌}
 use Rattle.contents.specs.Answers.{filled_outcome}
 use Rattle.contents.proofs.Stepped.{unlisted, over-limit, not-counted, too_many, in-room}

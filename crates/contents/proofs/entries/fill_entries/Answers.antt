@@ -1,7 +1,5 @@
 -- `contents::entries::fill_entries` meets its contract. Assumes nothing.
-use Rattle.std.proofs.Common.{◌≡◌, ◌<◌, ◌≤◌, length, ◌∙◌, rules, arith}
-use Rattle.form.specs.Saves.{LIMIT}
-use Rattle.form.specs.Contents.{contents}
+use Rattle.std.proofs.Common.{◌<◌, length, ◌∙◌, arith}
 use Rattle.contents.specs.Records.{filled_number}
 use Rattle.contents.proofs.Stored.{stored-all, starts, goes_on, ends, fills}
 use Rattle.contents.proofs.entries.fill_entries.Goals as goal

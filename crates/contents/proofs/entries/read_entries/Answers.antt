@@ -1,7 +1,7 @@
 -- `contents::entries::read_entries` meets its contract. Assumes nothing.
-use Rattle.std.proofs.Common.{◌≡◌, ◌<◌, ◌≤◌, ◌+◌, ◌*◌, length, rules, arith}
+use Rattle.std.proofs.Common.{◌<◌, length, arith}
 use Rattle.contents.specs.Records.{opened_number}
-use Rattle.contents.proofs.Stored.{opened-all, starts-at, goes-on-at, ends_at, reads}
+use Rattle.contents.proofs.Stored.{opened-all, goes-on-at, ends_at, reads}
 use Rattle.contents.proofs.entries.read_entries.Goals as goal
 
 pub entry_at-requires : goal.entry_at-requires

@@ -1,5 +1,4 @@
 -- `contents::entries::step` meets its contract. Assumes nothing.
-use borrow.Author.Rules.{rules}
 use native.Mathlib.Omega.{arith}
 use Rattle.contents.proofs.Stepped.{key-inside, to-key, to_end}
 use borrow.Enum.Refused.{opened}

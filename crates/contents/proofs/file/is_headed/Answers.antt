@@ -1,5 +1,4 @@
 -- `contents::file::is_headed` meets its contract. Assumes nothing.
-use borrow.Author.Rules.{rules}
 use Prim.Native.Nat.{◌-◌}
 use mathlib.Core.Path.{sym, ◌∙◌}
 use lib.ListN.{length, take, drop, get_or}

@@ -3,10 +3,9 @@
 use Prim.Native.Nat.{◌+◌, ◌-◌, ◌*◌, ◌≤◌}
 use native.Mathlib.Omega.{arith}
 use mathlib.Core.Path.{◌≡◌, sym, ◌∙◌}
-use borrow.Author.Rules.{rules}
 use lib.ListN.{drop}
-use Rattle.form.specs.Contents.{in_order, entries_in}
-use Rattle.contents.proofs.Orders.{order_left, order-start, order-end}
+use Rattle.form.specs.Contents.{entries_in}
+use Rattle.contents.proofs.Orders.{order-start, order-end}
 use Rattle.contents.proofs.Admitted.{entry-step, entries_none}
 use Rattle.contents.proofs.file.is_ordered.Goals as goal
 

@@ -1,5 +1,4 @@
 -- `contents::file::judge` meets its contract. Assumes nothing.
-use borrow.Author.Rules.{rules}
 use Prim.Native.Nat.{◌+◌, ◌*◌}
 use borrow.Author.Tests.{le-leb, lt-leb}
 use Rattle.form.specs.Contents.{MANY}

@@ -1,5 +1,4 @@
 -- `contents::file::put_number` meets its contract. Assumes nothing.
-use borrow.Author.Rules.{rules}
 use native.Mathlib.Omega.{arith}
 use lib.ListN.{length-set}
 use Rattle.contents.proofs.BigBytes.{put-big}

@@ -1,11 +1,9 @@
 -- `contents::file::put_numbers` meets its contract. The invariant: the numbers that are left, written to the output as it is, give what the
 -- contract says. Assumes nothing.
-use Prim.Native.Nat.{◌+◌, ◌-◌, ◌*◌, ◌≤◌}
 use native.Mathlib.Omega.{arith}
-use mathlib.Core.Path.{◌≡◌, refl, ap, ◌∙◌}
-use lib.ListN.{length, drop}
-use lib.Seq.{sets, length-sets}
-use Rattle.form.specs.Contents.{big_all}
+use mathlib.Core.Path.{refl, ap, ◌∙◌}
+use lib.ListN.{length}
+use lib.Seq.{length-sets}
 use Rattle.contents.proofs.BigBytes.{put_step, put-done}
 use Rattle.contents.proofs.file.put_numbers.Goals as goal
 

@@ -1,5 +1,4 @@
 -- `contents::file::read` meets its contract. Assumes nothing.
-use borrow.Author.Rules.{rules}
 use native.Mathlib.Omega.{arith}
 use Rattle.contents.proofs.Admitted.{opened-refused, opened-fits, opened-listed}
 use borrow.Enum.Refused.{opened}

@@ -3,9 +3,7 @@
 use Prim.Native.Nat.{◌+◌, ◌-◌, ◌*◌, ◌≤◌}
 use native.Mathlib.Omega.{arith}
 use mathlib.Core.Path.{◌≡◌, refl, ◌∙◌}
-use lib.ListN.{length, drop, length-set}
-use lib.Seq.{sets}
-use Rattle.contents.specs.Files.{numbers_in}
+use lib.ListN.{drop, length-set}
 use Rattle.contents.proofs.BigBytes.{take_step, take_done, take-front}
 use Rattle.contents.proofs.file.take_numbers.Goals as goal
 

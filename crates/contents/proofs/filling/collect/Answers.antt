@@ -1,10 +1,6 @@
 -- `contents::filling::collect` meets its contract. The invariant: what is still to come makes the list whole. Assumes nothing.
-use borrow.Author.Rules.{rules}
-use Prim.Native.Nat.{◌-◌}
 use native.Mathlib.Omega.{arith}
-use mathlib.Core.Path.{◌∙◌}
-use lib.ListN.{length}
-use Rattle.contents.proofs.Numbering.{Coming, at_first, to-key, to_end, to-refused}
+use Rattle.contents.proofs.Numbering.{at_first, to-key, to_end, to-refused}
 use Rattle.contents.proofs.filling.collect.Goals as goal
 
 pub loop-p-init : goal.loop-p-init

@@ -3,8 +3,7 @@
 use Prim.Native.Nat.{◌-◌}
 use native.Mathlib.Omega.{arith}
 use mathlib.Core.Path.{◌≡◌, refl, ◌∙◌}
-use lib.ListN.{length, take, drop, length-take, length-set}
-use lib.Seq.{sets}
+use lib.ListN.{take, length-take, length-set}
 use Rattle.contents.proofs.Numbering.{copy_step, copy_done, front}
 use Rattle.contents.proofs.filling.copy.Goals as goal
 

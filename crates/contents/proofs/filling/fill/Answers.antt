@@ -1,5 +1,4 @@
 -- `contents::filling::fill` meets its contract. Assumes nothing.
-use borrow.Author.Rules.{rules}
 use native.Mathlib.Omega.{arith}
 use mathlib.Core.Path.{ap, ◌∙◌}
 use Rattle.contents.specs.Answers.{filled_outcome}

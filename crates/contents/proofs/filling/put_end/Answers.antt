@@ -1,6 +1,4 @@
 -- `contents::filling::put_end` meets its contract. Assumes nothing.
-use borrow.Author.Rules.{rules}
-use native.Mathlib.Omega.{arith}
 use mathlib.Core.Path.{◌∙◌}
 use Rattle.contents.proofs.Numbering.{end-put, no_end}
 use Rattle.contents.proofs.filling.put_end.Goals as goal

@@ -1,6 +1,4 @@
 -- `contents::filling::put_start` meets its contract. Assumes nothing.
-use borrow.Author.Rules.{rules}
-use native.Mathlib.Omega.{arith}
 use mathlib.Core.Path.{◌∙◌}
 use Rattle.contents.proofs.filling.put_start.Goals as goal
 

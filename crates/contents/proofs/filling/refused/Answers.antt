@@ -1,5 +1,4 @@
 -- `contents::filling::refused` meets its contract. Assumes nothing.
-use borrow.Author.Rules.{rules}
 use Rattle.form.specs.Refusals.{refusal_at}
 use Rattle.contents.proofs.filling.refused.Goals as goal
 

@@ -1,5 +1,4 @@
 -- `contents::records::begin` meets its contract. Assumes nothing.
-use borrow.Author.Rules.{rules}
 use mathlib.Core.Path.{◌∙◌}
 use Rattle.contents.specs.Lists.{head_put}
 use Rattle.contents.proofs.Lists.{head-fits, none-put}

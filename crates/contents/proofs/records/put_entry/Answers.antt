@@ -1,5 +1,4 @@
 -- `contents::records::put_entry` meets its contract. Assumes nothing.
-use borrow.Author.Rules.{rules}
 use mathlib.Core.Path.{◌∙◌}
 use Rattle.contents.specs.Lists.{entry_put}
 use Rattle.contents.proofs.records.put_entry.Goals as goal

@@ -1,5 +1,5 @@
 -- `contents::records::write_entries` meets its contract. Assumes nothing.
-use Rattle.std.proofs.Common.{◌≡◌, ◌<◌, ◌≤◌, length, sym, ap, ◌∙◌, rules, arith}
+use Rattle.std.proofs.Common.{◌≡◌, ◌<◌, length, sym, ap, ◌∙◌, arith}
 use Rattle.contents.specs.Lists.{number_of, head_put, HasRoom}
 use Rattle.contents.proofs.Lists.{has_room, number_fits, entry-fits, bytes, bytes-0, bytes_next, followed}
 use Rattle.contents.proofs.records.write_entries.Goals as goal

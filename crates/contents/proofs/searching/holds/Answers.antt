@@ -1,5 +1,4 @@
 -- `contents::searching::holds` meets its contract. Assumes nothing.
-use borrow.Author.Rules.{rules}
 use Rattle.contents.proofs.Orders.{too-early, within_end}
 use Rattle.contents.proofs.searching.holds.Goals as goal
 

@@ -1,12 +1,8 @@
 -- `contents::searching::search` meets its contract.
 -- The invariant: what is left of the list says the same from here on as all of it from the beginning on. Assumes nothing.
-use borrow.Author.Rules.{rules}
-use Prim.Native.Nat.{◌-◌, ◌≤◌}
 use native.Mathlib.Omega.{arith}
-use mathlib.Core.Path.{◌≡◌, ◌∙◌}
-use lib.ListN.{drop}
-use Rattle.contents.specs.Searches.{begun}
-use Rattle.contents.proofs.Orders.{order_left, held_left, pairs, leads-on, at-end, search-odd}
+use mathlib.Core.Path.{◌∙◌}
+use Rattle.contents.proofs.Orders.{leads-on, at-end, search-odd}
 use Rattle.contents.proofs.searching.search.Goals as goal
 
 pub returns-then-list-ne0 : goal.returns-then-list-ne0

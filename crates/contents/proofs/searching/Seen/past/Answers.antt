@@ -1,5 +1,4 @@
 -- `contents::searching::Seen::past` meets its contract. Assumes nothing.
-use borrow.Author.Rules.{rules}
 use Rattle.contents.specs.Searches.{past_of}
 use Rattle.contents.proofs.searching.Seen.past.Goals as goal
 
