@@ -5,8 +5,5 @@ pub mod Judged
 pub mod Admitted
 pub mod Stepped
 pub mod Stored
-pub mod Stores
 pub mod Lists
-pub mod Looks
-pub mod Again
 pub mod Unique

@@ -16,8 +16,6 @@ use borrow.Author.Tests.{le-leb, lt-leb}
 use Rattle.form.specs.Values.{Value}
 use Rattle.form.specs.Refusals as R
 use Rattle.form.specs.Refusals.{Refusal, refusal_at}
-use Rattle.form.specs.Readers.{found, at}
-use Rattle.form.specs.Reading.{token}
 use Rattle.form.specs.Saves.{walk, LIMIT, from}
 use Rattle.form.specs.Writing.{Outcome, wrote, declined, over}
 use Rattle.form.specs.Keys.{at_top, keys_of}

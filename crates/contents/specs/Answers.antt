@@ -1,5 +1,5 @@
 -- What the answers of the code stand for.
-use Rattle.std.specs.Prelude.{ℕ, ◌/◌, ◌≡◌, List, map}
+use Rattle.std.specs.Prelude.{ℕ, ◌≡◌, List, map}
 use Rattle.form.specs.Refusals as R
 use Rattle.form.specs.Writing.{Outcome, wrote, declined}
 use Rattle.form.specs.Contents as F

@@ -1,13 +1,12 @@
 -- No public promise goes through this file. The numbers of a list of entries, as they come: a key's place ends an entry and begins the next.
-use Rattle.std.specs.Prelude.{ℕ, zero, suc, ◌+◌, ◌*◌, ◌-◌, ◌≡◌, List, ◌∷◌, length, set}
+use Rattle.std.specs.Prelude.{ℕ, zero, suc, ◌+◌, ◌*◌, ◌≡◌, List, ◌∷◌, set}
 use Rattle.std.proofs.Math.Option.{none}
 use Rattle.std.proofs.lemmas.List.Edits.{sets}
 use Rattle.form.specs.Values.{Value}
 use Rattle.form.specs.Saves.{walk}
-use Rattle.form.specs.Writing.{wrote, declined, Outcome}
-use Rattle.form.specs.Keys.{keys_of}
+use Rattle.form.specs.Writing.{Outcome}
 use Rattle.form.specs.Finding.{cut_by}
-use Rattle.form.specs.Contents.{first_or, entries_to, flat, contents, Filling, filled, unless_cut, filling_outcome}
+use Rattle.form.specs.Contents.{first_or, entries_to, flat, contents, filled, unless_cut, filling_outcome}
 
 -- after n entries: the place of the first number that is still to come, and what is
 abbrev pub place : ℕ → ℕ
