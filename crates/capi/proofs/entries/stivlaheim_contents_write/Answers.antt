@@ -1,0 +1,11 @@
+-- `capi::entries::stivlaheim_contents_write` meets its contract. Assumes nothing.
+use borrow.Author.Tests.{le-leb, lt-leb}
+use Rattle.capi.proofs.LentLists.{too_short_lem}
+use borrow.Author.Rules.{rules}
+use Rattle.capi.proofs.entries.stivlaheim_contents_write.Goals as goal
+
+pub returns-then-answer-lt8 : goal.returns-then-answer-lt8
+returns-then-answer-lt8 c = record { answer_after = too_short_lem _ _ c.if-answer-lt8.true; out_after = rw (lt-leb 8 _ c.if-answer-lt8.true) }
+
+pub returns : goal.returns
+returns c = record { answer_after = rw (← c.write-x.ensures.answer, ← c.written_reply.ensures) c.store.ensures; out_after = rw (le-leb 8 _ c.if-answer-lt8.false) c.write-x.ensures.output }

@@ -1,0 +1,12 @@
+-- `capi::lexer_replies::of_peek_token` meets its contract. Assumes nothing.
+use borrow.Author.Rules.{rules}
+use Rattle.capi.proofs.lexer_replies.of_peek_token.Goals as goal
+
+pub returns-in-Got : goal.returns-in-Got
+returns-in-Got c = rw c.in-Got.is c.of_token.ensures
+
+pub returns-in-Nothing : goal.returns-in-Nothing
+returns-in-Nothing c = rw c.in-Nothing.is c.absent.ensures
+
+pub returns-in-Refused : goal.returns-in-Refused
+returns-in-Refused c = rw c.in-Refused.is c.refused.ensures

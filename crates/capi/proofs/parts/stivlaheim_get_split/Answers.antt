@@ -1,0 +1,6 @@
+-- `capi::parts::stivlaheim_get_split` meets its contract. Assumes nothing.
+use borrow.Author.Rules.{rules}
+use Rattle.capi.proofs.parts.stivlaheim_get_split.Goals as goal
+
+pub returns : goal.returns
+returns c = rw (← c.split_reply.ensures) c.store.ensures

@@ -1,0 +1,15 @@
+-- `capi::source_reads::stivlaheim_source_read_bstr` meets its contract. Assumes nothing.
+use Rattle.source.specs.Answers.{taken_answer}
+use Rattle.capi.proofs.Called.{not-asked, six-words, called-by}
+use borrow.Author.Rules.{rules}
+use Rattle.capi.proofs.source_reads.stivlaheim_source_read_bstr.Goals as goal
+
+pub returns-in_default : goal.returns-in_default
+returns-in_default c = not-asked _ _ c.ask-a.ensures _ _ _ c.in_default.is c.number.ensures
+
+pub hand_over-requires : goal.hand_over-requires
+hand_over-requires c = six-words _ _ c.ask-a.ensures c.in-State.is
+
+pub returns : goal.returns
+returns c =
+    called-by _ _ c.ask-a.ensures _ _ _ (taken_answer c.read_bstr-x.result) c.of_taken.result c.in-State.is c.read_bstr-x.ensures c.of_taken.ensures (c.hand_over.ensures.answer_after, c.hand_over.ensures.state_after)
