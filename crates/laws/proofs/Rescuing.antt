@@ -13,7 +13,7 @@ use lib.Dec.{eqb}
 use borrow.Author.Tests.{eqb-true, ne_eqb, le-leb}
 use Rattle.form.specs.Numbers.{pick, le_bytes}
 use Rattle.form.specs.Values.{Value, Close, kind}
-use Rattle.form.specs.Table.{nothing, table, entries, find, or_plain, after}
+use Rattle.form.specs.Table.{table, entries, find, or_plain, after}
 use Rattle.form.specs.Readers.{Answer, found, refused, further, and_then, at}
 use Rattle.form.specs.Reading.{num, payload, token}
 use Rattle.form.specs.Spelling.{bit, tag, body, spell, reason, writable}

@@ -13,7 +13,7 @@ use Rattle.form.specs.Table.{number, text, colour, after}
 use Rattle.form.specs.Ids.{OPEN, CLOSE}
 use Rattle.form.specs.Refusals.{Fault, too_short}
 use Rattle.form.specs.Readers.{Answer, found, refused, further, mapped, at}
-use Rattle.form.specs.Reading.{next, num, string, payload}
+use Rattle.form.specs.Reading.{num, string, payload}
 use Rattle.form.specs.Values.{Value, Id}
 use Rattle.form.specs.Skipping.{Skip, past, stopped, stepped, passing, or_stop, closed, turned, skip_f, skipping, skip_container, skip_value}
 use Rattle.laws.proofs.Never.{never}

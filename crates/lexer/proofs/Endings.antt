@@ -14,7 +14,7 @@ use Rattle.form.specs.Refusals as F
 use Rattle.form.specs.Refusals.{Fault, too_short, bad_colour}
 use Rattle.form.specs.Readers.{Answer, found, refused, ByPlace, at}
 use Rattle.form.specs.Reading.{token}
-use Rattle.form.specs.Skipping.{Skip, past, stopped}
+use Rattle.form.specs.Skipping.{Skip, stopped}
 use Rattle.form.specs.Calls.{Cursor, moved_to, position_of, Call, gives, refuses, fits, within, ended, reads, optional, nexts, if_found, peeks, landed, skips}
 use Rattle.laws.proofs.Never.{never}
 use Rattle.laws.proofs.Elsewhere.{both}

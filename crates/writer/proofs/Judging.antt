@@ -2,14 +2,13 @@
 use Prim.Native.Nat.{ℕ, ◌≤◌}
 use native.Mathlib.Omega.{arith}
 use mathlib.Core.Path.{◌≡◌, refl, sym, ap, ◌∙◌}
-use mathlib.Core.Bool.{Bool, true, false}
 use mathlib.Core.Option.{Option, none, some}
 use mathlib.Core.List.{List, [], ◌∷◌}
 use mathlib.Core.Logic.{⊎_elim}
 use lib.ListN.{length}
 use types.Run.{OneOf}
 use denote.Enum.Declared.{tag_of}
-use Rattle.form.specs.Numbers.{pick, MAX}
+use Rattle.form.specs.Numbers.{MAX}
 use Rattle.form.specs.Refusals as R
 use Rattle.form.specs.Writing.{Output, written, unwritten, wrote, outcome, leaves, Follows, fitted, unless}
 use Rattle.laws.proofs.Never.{never}

@@ -1,16 +1,15 @@
 -- The layout of each token's shortest spelling. Assumes nothing.
 use Prim.Native.Nat.{ℕ, ◌+◌, ◌-◌, ◌^◌, ◌≤◌, ◌<◌}
 use native.Mathlib.Omega.{arith}
-use mathlib.Core.Path.{◌≡◌, refl, sym, ap, ◌∙◌}
+use mathlib.Core.Path.{◌≡◌, refl, ◌∙◌}
 use mathlib.Core.Bool.{Bool, true, false, ◌||◌}
-use mathlib.Core.Option.{none}
 use mathlib.Core.List.{List, [], ◌∷◌}
 use lib.ListN.{length, take, drop}
 use lib.Dec.{eqb}
 use borrow.Author.Tests.{lt-ltb, le-ltb}
 use denote.Enum.Declared.{tag_of}
 use types.Run.{OneOf}
-use Rattle.form.specs.Numbers.{pick, le_bytes, negated}
+use Rattle.form.specs.Numbers.{le_bytes, negated}
 use Rattle.form.specs.Values as F
 use Rattle.form.specs.Values.{kind}
 use Rattle.form.specs.Spelling.{tag, body, spell, reason}

@@ -2,7 +2,6 @@
 use Rattle.payload.specs.Answers.{u64_answer}
 use Rattle.payload.proofs.LetElse.{got_of}
 use Rattle.fast.proofs.Holding.{compact-got, compact-never}
-use borrow.Author.Rules.{rules}
 use Rattle.fast.proofs.compact.Goals as goal
 
 pub returns-in_default : goal.returns-in_default

@@ -1,5 +1,4 @@
 -- `fast::copy` meets its contract. Assumes nothing.
-use borrow.Author.Rules.{rules}
 use Rattle.fast.proofs.copy.Goals as goal
 
 pub returns : goal.returns

@@ -1,6 +1,5 @@
 -- `fast::named` meets its contract. Assumes nothing.
 use mathlib.Core.Path.{◌∙◌, ap}
-use borrow.Author.Rules.{rules}
 use Rattle.lexeme.specs.declared.TokenKind.TheVariants.{Id}
 use Rattle.fast.specs.Steps.{alone_of}
 use Rattle.fast.proofs.named.Goals as goal

@@ -7,7 +7,6 @@ use Rattle.form.specs.Table.{after}
 use Rattle.payload.specs.Answers.{id_answer}
 use Rattle.payload.proofs.LetElse.{got_of}
 use Rattle.fast.proofs.Holding.{id-got, id-never}
-use borrow.Author.Rules.{rules}
 use Rattle.fast.proofs.next_token_fast.Goals as goal
 
 pub returns-then-window-lt16 : goal.returns-then-window-lt16
@@ -21,7 +20,6 @@ pub by_id-requires : goal.by_id-requires
 by_id-requires c = (
   c.if-window-lt16.false,
   id-got c.args.window.now c.if-window-lt16.false (got_of id_answer c.read_id-r.ensures c.in-Got.is),
-
 )
 
 pub returns : goal.returns

@@ -4,7 +4,6 @@ use mathlib.Core.Path.{◌∙◌}
 use Rattle.payload.specs.Answers.{text_answer}
 use Rattle.payload.proofs.LetElse.{got_of}
 use Rattle.fast.proofs.Holding.{text-within, text-got, text-slow}
-use borrow.Author.Rules.{rules}
 use Rattle.fast.proofs.string.Goals as goal
 
 pub returns-in_default : goal.returns-in_default

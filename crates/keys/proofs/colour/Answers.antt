@@ -1,6 +1,5 @@
 -- `keys::colour` meets its contract. Assumes nothing.
 use native.Mathlib.Omega.{arith}
-use borrow.Author.Rules.{rules}
 use borrow.Author.Rules.{part_to_end}
 use Rattle.form.specs.Values.{kind}
 use Rattle.payload.specs.Answers.{colour_of, rgb_answer}

@@ -1,5 +1,4 @@
 -- `keys::is_key` meets its contract. Assumes nothing.
-use borrow.Author.Rules.{rules}
 use borrow.Author.Tests.{not-true, not-false}
 use Rattle.keys.proofs.Passing.{unwanted, inner, at_top_lem}
 use Rattle.std.proofs.Common.{ap, not}

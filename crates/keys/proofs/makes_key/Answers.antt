@@ -1,5 +1,4 @@
 -- `keys::makes_key` meets its contract. Assumes nothing.
-use borrow.Author.Rules.{rules}
 use mathlib.Core.Path.{sym, ◌∙◌}
 use Rattle.payload.specs.Answers.{id_answer}
 use Rattle.payload.proofs.LetElse.{got_of}

@@ -1,14 +1,8 @@
 -- `keys::next_key` meets its contract.
 -- The invariant: what is sought from here on, at this depth, is what is sought from the beginning on. Assumes nothing.
-use borrow.Author.Rules.{rules}
-use Prim.Native.Nat.{◌-◌, ◌≤◌}
 use native.Mathlib.Omega.{arith}
-use mathlib.Core.Path.{◌≡◌, refl, ◌∙◌}
+use mathlib.Core.Path.{refl, ◌∙◌}
 use mathlib.Core.Bool.{false}
-use lib.ListN.{length}
-use Rattle.form.specs.Saves.{from}
-use Rattle.laws.proofs.Seeking.{seeking}
-use Rattle.keys.specs.Seeking.{wants}
 use Rattle.keys.proofs.Passing.{known, plain-may, other-may, to-open, to-close, to-equal, to-value, to-key, to-refused, to_end}
 use Rattle.keys.proofs.next_key.Goals as goal
 

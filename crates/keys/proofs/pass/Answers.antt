@@ -1,5 +1,4 @@
 -- `keys::pass` meets its contract. Assumes nothing.
-use borrow.Author.Rules.{rules}
 use mathlib.Core.Path.{refl, ◌∙◌}
 use Rattle.form.specs.Readers.{and_then}
 use Rattle.laws.proofs.Places.{by-id, token-then}

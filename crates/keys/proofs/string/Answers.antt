@@ -1,5 +1,4 @@
 -- `keys::string` meets its contract. Assumes nothing.
-use borrow.Author.Rules.{rules}
 use mathlib.Core.Path.{refl}
 use Rattle.payload.specs.Answers.{text_of, text_answer}
 use Rattle.payload.proofs.LetElse.{got_of, lack_of, placed-found, placed-refused}

@@ -1,7 +1,6 @@
 -- `payload::read_bool` meets its contract. Assumes nothing.
 use mathlib.Core.Path.{refl}
 use Rattle.form.specs.Readers.{mapped}
-use borrow.Author.Rules.{rules}
 use Rattle.payload.specs.Answers.{u64_answer}
 use Rattle.payload.proofs.LetElse.{got_of, lack_of}
 use Rattle.payload.proofs.read_bool.Goals as goal

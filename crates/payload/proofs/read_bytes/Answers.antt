@@ -4,7 +4,6 @@ use mathlib.Core.Path.{◌≡◌}
 use native.Mathlib.Omega.{arith}
 use lib.ListN.{length, drop, length-drop}
 use lib.Seq.{length-take-le}
-use borrow.Author.Rules.{rules}
 use Rattle.form.specs.Readers.{placed}
 use Rattle.laws.proofs.Places.{at_next, at-short}
 use Rattle.split.proofs.Enough.{there, short}

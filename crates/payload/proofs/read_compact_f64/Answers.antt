@@ -1,6 +1,5 @@
 -- `payload::read_compact_f64` meets its contract. Assumes nothing.
 use mathlib.Core.Path.{refl, sym}
-use borrow.Author.Rules.{rules}
 use Rattle.form.specs.Readers.{mapped}
 use Rattle.payload.specs.Answers.{u64_answer}
 use Rattle.payload.proofs.LetElse.{got_of, lack_of}

@@ -2,7 +2,6 @@
 use mathlib.Core.Path.{refl, sym}
 use native.Mathlib.Omega.{arith}
 use Rattle.laws.proofs.Places.{num-lt}
-use borrow.Author.Rules.{rules}
 use Rattle.payload.specs.Answers.{u64_answer}
 use Rattle.payload.proofs.LetElse.{got_of, lack_of}
 use Rattle.payload.proofs.read_lookup_u16.Goals as goal

@@ -2,7 +2,6 @@
 use native.Mathlib.Omega.{arith}
 use mathlib.Core.Path.{sym, ap, ◌∙◌}
 use lib.ListN.{length, length-drop}
-use borrow.Author.Rules.{rules}
 use Rattle.form.specs.Readers.{further}
 use Rattle.form.specs.Reading.{rgb}
 use Rattle.split.proofs.Enough.{rest-drop}

@@ -2,7 +2,6 @@
 use mathlib.Core.Path.{refl}
 use Rattle.form.specs.Readers.{and_then, placed}
 use Rattle.laws.proofs.Places.{string-then}
-use borrow.Author.Rules.{rules}
 use Rattle.payload.specs.Answers.{u64_answer, text_answer}
 use Rattle.payload.proofs.LetElse.{got_of, lack_of}
 use Rattle.payload.proofs.read_string.Goals as goal

@@ -1,7 +1,6 @@
 -- `skip::skip_container` meets its contract. Assumes nothing.
 use mathlib.Core.Path.{◌∙◌}
 use Rattle.skip.proofs.Turns.{container-is}
-use borrow.Author.Rules.{rules}
 use Rattle.skip.proofs.skip_container.Goals as goal
 
 pub returns : goal.returns

@@ -4,7 +4,6 @@ use borrow.Author.Tests.{eqb-false}
 use Rattle.payload.specs.Answers.{rgb_answer}
 use Rattle.payload.proofs.LetElse.{got_of, colour-else}
 use Rattle.skip.proofs.Turns.{value-is, past-colour, no-colour}
-use borrow.Author.Rules.{rules}
 use borrow.Enum.Refused.{opened}
 use Rattle.skip.proofs.skip_value.Goals as goal
 

@@ -1,5 +1,4 @@
 -- `text::digit` meets its contract. Assumes nothing.
-use borrow.Author.Rules.{rules}
 use borrow.Author.Tests.{lt-ltb, le-ltb}
 use Rattle.text.proofs.digit.Goals as goal
 

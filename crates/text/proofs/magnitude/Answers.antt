@@ -3,7 +3,6 @@ use native.Mathlib.Omega.{arith}
 use mir.Syntax.{w64}
 use Rattle.laws.proofs.Signs.{below, more-fits, less-fits, less-shown, positive}
 use Rattle.text.proofs.Sign.{size_is}
-use borrow.Author.Rules.{rules}
 use Rattle.text.proofs.magnitude.Goals as goal
 
 pub overflow_add-m : goal.overflow_add-m

@@ -1,10 +1,8 @@
 -- `text::put_all` meets its contract. The invariant: what is left of the bytes, written to the output as it is, gives what the promise says.
 -- Assumes nothing.
-use borrow.Author.Rules.{rules}
-use Prim.Native.Nat.{◌-◌, ◌≤◌}
 use native.Mathlib.Omega.{arith}
-use lib.ListN.{length, drop, drop_of_length-le}
-use Rattle.laws.proofs.Puts.{Left, left-all, left_step, left-done}
+use lib.ListN.{drop_of_length-le}
+use Rattle.laws.proofs.Puts.{left-all, left_step, left-done}
 use Rattle.text.proofs.Words.{drop-one}
 use Rattle.text.proofs.put_all.Goals as goal
 

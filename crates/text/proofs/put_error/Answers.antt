@@ -1,7 +1,6 @@
 -- `text::put_error` meets its contract. Assumes nothing.
 use Rattle.form.specs.Ascii.{line}
 use Rattle.laws.proofs.Puts.{put_then}
-use borrow.Author.Rules.{rules}
 use Rattle.text.proofs.put_error.Goals as goal
 
 pub returns : goal.returns

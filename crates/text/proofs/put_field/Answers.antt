@@ -1,5 +1,4 @@
 -- `text::put_field` meets its contract. Assumes nothing.
-use borrow.Author.Rules.{rules}
 use Rattle.text.proofs.Words.{put-words}
 use Rattle.text.proofs.put_field.Goals as goal
 

@@ -1,10 +1,6 @@
 -- `text::put_hex` meets its contract. The invariant is that of `put_all`, in hex. Assumes nothing.
-use borrow.Author.Rules.{rules}
-use Prim.Native.Nat.{◌-◌, ◌≤◌}
 use native.Mathlib.Omega.{arith}
-use lib.ListN.{length, drop}
-use Rattle.form.specs.Ascii.{hex}
-use Rattle.laws.proofs.Puts.{Left, left-all, left_step, left-done}
+use Rattle.laws.proofs.Puts.{left-all, left_step, left-done}
 use Rattle.text.proofs.Words.{hex-one, hex-all}
 use Rattle.text.proofs.put_hex.Goals as goal
 

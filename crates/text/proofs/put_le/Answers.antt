@@ -1,9 +1,6 @@
 -- `text::put_le` meets its contract. The invariant is that of `put_all`, over the bytes that are left of the number. Assumes nothing.
-use borrow.Author.Rules.{rules}
 use native.Mathlib.Omega.{arith}
-use Rattle.form.specs.Numbers.{le_bytes}
-use Rattle.form.specs.Ascii.{hex}
-use Rattle.laws.proofs.Puts.{Left, left-all, left_step, left-done}
+use Rattle.laws.proofs.Puts.{left-all, left_step, left-done}
 use Rattle.text.proofs.Words.{le-one, le-none}
 use Rattle.text.proofs.put_le.Goals as goal
 

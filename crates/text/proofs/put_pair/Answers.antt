@@ -1,7 +1,6 @@
 -- `text::put_pair` meets its contract. Assumes nothing.
 use Rattle.laws.proofs.Puts.{put_then}
 use Rattle.text.proofs.Words.{hex-pair}
-use borrow.Author.Rules.{rules}
 use Rattle.text.proofs.put_pair.Goals as goal
 
 pub returns : goal.returns

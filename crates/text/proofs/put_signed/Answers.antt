@@ -1,7 +1,6 @@
 -- `text::put_signed` meets its contract. Assumes nothing.
 use Rattle.laws.proofs.Puts.{put_then}
 use Rattle.text.proofs.Sign.{signed-minus, signed-plain}
-use borrow.Author.Rules.{rules}
 use Rattle.text.proofs.put_signed.Goals as goal
 
 pub returns-then-x-lt0 : goal.returns-then-x-lt0

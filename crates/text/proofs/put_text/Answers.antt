@@ -1,6 +1,5 @@
 -- `text::put_text` meets its contract. Assumes nothing.
 use Rattle.text.proofs.Words.{dash, no-dash}
-use borrow.Author.Rules.{rules}
 use Rattle.text.proofs.put_text.Goals as goal
 
 pub returns-then-src-eq0 : goal.returns-then-src-eq0

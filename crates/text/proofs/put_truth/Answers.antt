@@ -1,6 +1,5 @@
 -- `text::put_truth` meets its contract. Assumes nothing.
 use Rattle.form.specs.Ascii.{truth}
-use borrow.Author.Rules.{rules}
 use Rattle.text.proofs.put_truth.Goals as goal
 
 pub returns-then-b : goal.returns-then-b

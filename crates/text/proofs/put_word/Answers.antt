@@ -1,5 +1,4 @@
 -- `text::put_word` meets its contract. Assumes nothing.
-use borrow.Author.Rules.{rules}
 use Rattle.text.proofs.Words.{put-spaced}
 use Rattle.text.proofs.put_word.Goals as goal
 

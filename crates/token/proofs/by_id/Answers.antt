@@ -13,7 +13,6 @@ use Rattle.token.specs.Tokens.{token_of}
 use Rattle.token.specs.declared.Token.TheVariants as T
 use Rattle.token.proofs.Payloads.{by-entry, number_at, through-at, text_at_lem, colour-at, compact-from, nothing-at, empty-at, compact-is}
 use borrow.Author.Rules.{part_to_end}
-use borrow.Author.Rules.{rules}
 use Rattle.token.proofs.by_id.Goals as goal
 
 pub overflow_sub-width : goal.overflow_sub-width

@@ -1,7 +1,6 @@
 -- `token::compact_token` meets its contract. Assumes nothing.
 use mathlib.Core.Path.{ap, ◌∙◌}
 use borrow.Author.Rules.{part_to_end}
-use borrow.Author.Rules.{rules}
 use Rattle.form.specs.Readers.{placed}
 use Rattle.token.specs.declared.Token.TheVariants as T
 use Rattle.token.proofs.compact_token.Goals as goal

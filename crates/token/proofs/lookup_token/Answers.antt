@@ -3,7 +3,6 @@ use mathlib.Core.Path.{refl}
 use Rattle.payload.specs.Answers.{u32_answer}
 use Rattle.token.specs.declared.Token.TheVariants as T
 use Rattle.token.proofs.Payloads.{getting, refusing}
-use borrow.Author.Rules.{rules}
 use Rattle.token.proofs.lookup_token.Goals as goal
 
 pub returns-in_default : goal.returns-in_default

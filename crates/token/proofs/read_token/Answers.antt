@@ -1,7 +1,6 @@
 -- `token::read_token` meets its contract. Assumes nothing.
 use mathlib.Core.Path.{refl}
 use Rattle.token.proofs.Payloads.{after-id, no-id}
-use borrow.Author.Rules.{rules}
 use Rattle.token.proofs.read_token.Goals as goal
 
 pub returns-in_default : goal.returns-in_default

@@ -1,6 +1,5 @@
 -- `token::refused` meets its contract. Assumes nothing.
 use mathlib.Core.Path.{sym, ap}
-use borrow.Author.Rules.{rules}
 use Rattle.form.specs.Readers.{refused}
 use Rattle.payload.specs.Answers.{fault_of}
 use Rattle.token.proofs.refused.Goals as goal

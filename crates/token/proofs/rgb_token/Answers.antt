@@ -5,7 +5,6 @@ use Rattle.payload.specs.Answers.{rgb_answer}
 use Rattle.payload.proofs.LetElse.{colour-else}
 use Rattle.token.specs.Tokens.{token_of}
 use Rattle.token.proofs.Payloads.{getting, colour-token}
-use borrow.Author.Rules.{rules}
 use borrow.Enum.Refused.{opened}
 use Rattle.token.proofs.rgb_token.Goals as goal
 

@@ -1,5 +1,4 @@
 -- `writer::copy` meets its contract. Assumes nothing.
-use borrow.Author.Rules.{rules}
 use native.Mathlib.Omega.{arith}
 use mathlib.Core.Path.{refl}
 use Rattle.writer.proofs.Judging.{not-stored, room, stored}

@@ -1,5 +1,4 @@
 -- `writer::judge` meets its contract. Assumes nothing.
-use borrow.Author.Rules.{rules}
 use mathlib.Core.Path.{ap, ◌∙◌}
 use Prim.Native.Nat.{◌+◌}
 use Rattle.form.specs.Writing.{outcome, unless}

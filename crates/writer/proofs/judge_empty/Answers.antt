@@ -1,5 +1,4 @@
 -- `writer::judge_empty` meets its contract. Assumes nothing.
-use borrow.Author.Rules.{rules}
 use mathlib.Core.Path.{◌≡◌, sym, ap, ◌∙◌}
 use mathlib.Core.Option.{none, some}
 use Rattle.form.specs.Refusals.{BadPlace}

@@ -1,5 +1,4 @@
 -- `writer::judge_id` meets its contract. Assumes nothing.
-use borrow.Author.Rules.{rules}
 use mathlib.Core.Path.{◌≡◌, sym, ap, ◌∙◌}
 use mathlib.Core.Bool.{not, true, false}
 use borrow.Author.Tests.{not-true, not-false}

@@ -1,5 +1,4 @@
 -- `writer::judge_lookup` meets its contract. Assumes nothing.
-use borrow.Author.Rules.{rules}
 use mathlib.Core.Path.{sym, ◌∙◌}
 use Rattle.form.specs.Writing.{outcome, unless}
 use Rattle.writer.specs.Layouts.{spelled_by, misplaced_by, reason_by, write_by}

@@ -1,5 +1,4 @@
 -- `writer::write` meets its contract. Assumes nothing.
-use borrow.Author.Rules.{rules}
 use mathlib.Core.Path.{sym}
 use lib.ListN.{length}
 use Rattle.writer.proofs.write.Goals as goal

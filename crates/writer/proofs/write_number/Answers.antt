@@ -1,5 +1,4 @@
 -- `writer::write_number` meets its contract. Assumes nothing.
-use borrow.Author.Rules.{rules}
 use native.Mathlib.Omega.{arith}
 use Rattle.writer.specs.Layouts.{id_number}
 use Rattle.writer.proofs.Judging.{not-stored, room, stored}

@@ -1,5 +1,4 @@
 -- `writer::write_shortest` meets its contract. Assumes nothing.
-use borrow.Author.Rules.{rules}
 use mathlib.Core.Path.{sym}
 use lib.ListN.{length}
 use Rattle.writer.proofs.write_shortest.Goals as goal

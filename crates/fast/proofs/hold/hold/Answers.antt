@@ -1,9 +1,7 @@
 -- `fast::hold::hold` meets its contract: the bytes so far, over the front of those held. Assumes nothing.
-use Prim.Native.Nat.{◌-◌, ◌≤◌}
 use mathlib.Core.Path.{◌≡◌, refl}
-use mathlib.Core.List.{◌++◌}
 use native.Mathlib.Omega.{arith}
-use lib.ListN.{length, take, drop, length-drop}
+use lib.ListN.{length-drop}
 use borrow.Author.Rules.{rules}
 use Rattle.fast.proofs.Holding.{hold-more}
 use Rattle.fast.proofs.hold.hold.Goals as goal

@@ -1,6 +1,5 @@
 -- `fast::hold::spell` meets its contract. Assumes nothing.
 use mathlib.Core.Path.{refl}
-use borrow.Author.Rules.{rules}
 use Rattle.form.specs.Numbers.{le_bytes}
 use Rattle.fast.proofs.hold.spell.Goals as goal
 

@@ -1,5 +1,4 @@
 -- `keys::Wanted::id` meets its contract. Assumes nothing.
-use borrow.Author.Rules.{rules}
 use Rattle.form.specs.Values.{kind}
 use Rattle.form.specs.Spelling.{tag}
 use Rattle.form.specs.Finding.{is_plain}

@@ -1,5 +1,4 @@
 -- `keys::Wanted::other` meets its contract. Assumes nothing.
-use borrow.Author.Rules.{rules}
 use Rattle.keys.specs.Seeking.{wants_any}
 use Rattle.keys.proofs.Wanted.other.Goals as goal
 

@@ -1,5 +1,4 @@
 -- `lexer::Lexer::ends` meets its contract. Assumes nothing.
-use borrow.Author.Rules.{rules}
 use Rattle.lexer.proofs.Lexer.ends.Goals as goal
 
 pub returns-then-fits : goal.returns-then-fits

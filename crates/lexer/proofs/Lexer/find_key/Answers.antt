@@ -1,6 +1,5 @@
 -- `lexer::Lexer::find_key` meets its contract. Assumes nothing.
 use mathlib.Core.Path.{sym, ◌∙◌}
-use borrow.Author.Rules.{rules}
 use Rattle.form.specs.Finding.{finds}
 use Rattle.laws.proofs.Cursors.{within_in}
 use Rattle.lexer.specs.Calls.{place_call}

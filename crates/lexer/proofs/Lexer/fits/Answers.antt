@@ -1,5 +1,4 @@
 -- `lexer::Lexer::fits` meets its contract. Assumes nothing.
-use borrow.Author.Rules.{rules}
 use native.Mathlib.Omega.{arith}
 use lib.ListN.{length}
 use Rattle.form.specs.Numbers.{MAX}

@@ -1,5 +1,4 @@
 -- `lexer::Lexer::land` meets its contract. Assumes nothing.
-use borrow.Author.Rules.{rules}
 use Rattle.form.specs.Calls.{landed}
 use Rattle.lexer.proofs.Endings.{stopped-lands, land-cut}
 use Rattle.lexer.proofs.Lexer.land.Goals as goal

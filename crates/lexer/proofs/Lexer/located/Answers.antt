@@ -1,5 +1,4 @@
 -- `lexer::Lexer::located` meets its contract. Assumes nothing.
-use borrow.Author.Rules.{rules}
 use mathlib.Core.Path.{ap}
 use Rattle.form.specs.Refusals.{refusal_at}
 use Rattle.payload.specs.Answers.{fault_of}

@@ -1,5 +1,4 @@
 -- `lexer::Lexer::next_id` meets its contract. Assumes nothing.
-use borrow.Author.Rules.{rules}
 use mathlib.Core.Path.{sym, ◌∙◌}
 use native.Mathlib.Omega.{arith}
 use Rattle.laws.proofs.Inside.{num-inside}

@@ -1,5 +1,4 @@
 -- `lexer::Lexer::next_token` meets its contract. Assumes nothing.
-use borrow.Author.Rules.{rules}
 use mathlib.Core.Path.{sym, ◌∙◌}
 use Rattle.lexer.specs.Calls.{token_call}
 use Rattle.lexer.proofs.Endings.{told, token_begins, next-got, next-end, next-cut}

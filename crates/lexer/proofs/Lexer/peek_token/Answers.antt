@@ -1,5 +1,4 @@
 -- `lexer::Lexer::peek_token` meets its contract. Assumes nothing.
-use borrow.Author.Rules.{rules}
 use Rattle.lexer.specs.Calls.{token_call}
 use Rattle.lexer.proofs.Endings.{told, peek-got, peek-none, peek-bad}
 use Rattle.lexer.proofs.Lexer.peek_token.Goals as goal

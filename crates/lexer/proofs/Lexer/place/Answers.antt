@@ -1,9 +1,6 @@
 -- `lexer::Lexer::place` meets its contract. Assumes nothing.
-use Prim.Native.Nat.{◌≤◌, ◌<◌}
 use native.Mathlib.Omega.{arith}
 use mathlib.Core.Path.{sym, ◌∙◌}
-use lib.ListN.{length}
-use borrow.Author.Rules.{rules}
 use borrow.Author.Tests.{not-true, not-false}
 use Rattle.laws.proofs.Cursors.{fits-true, within_in, within-unfit, within-out}
 use Rattle.lexer.specs.Calls.{refusal_of}

@@ -1,6 +1,5 @@
 -- `lexer::Lexer::position` meets its contract. Assumes nothing.
 use mathlib.Core.Path.{sym, ap, ◌∙◌}
-use borrow.Author.Rules.{rules}
 use Rattle.form.specs.Calls.{gives, positions}
 use Rattle.laws.proofs.Cursors.{within_in}
 use Rattle.lexer.specs.Calls.{cursor_of}

@@ -1,5 +1,4 @@
 -- `lexer::Lexer::read_bool` meets its contract. Assumes nothing.
-use borrow.Author.Rules.{rules}
 use native.Mathlib.Omega.{arith}
 use mathlib.Core.Path.{refl}
 use Rattle.form.specs.Readers.{at}

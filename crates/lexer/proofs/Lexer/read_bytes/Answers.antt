@@ -1,5 +1,4 @@
 -- `lexer::Lexer::read_bytes` meets its contract. Assumes nothing.
-use borrow.Author.Rules.{rules}
 use mathlib.Core.Path.{refl}
 use Rattle.form.specs.Calls.{reads}
 use Rattle.payload.specs.Answers.{text_answer}

@@ -1,5 +1,4 @@
 -- `lexer::Lexer::read_bytes_part` meets its contract. Assumes nothing.
-use borrow.Author.Rules.{rules}
 use mathlib.Core.Path.{ap, ◌∙◌}
 use Rattle.lexer.specs.Calls.{string_call, given_part}
 use Rattle.lexer.proofs.Endings.{told}

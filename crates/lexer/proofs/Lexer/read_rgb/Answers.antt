@@ -1,5 +1,4 @@
 -- `lexer::Lexer::read_rgb` meets its contract. Assumes nothing.
-use borrow.Author.Rules.{rules}
 use Rattle.laws.proofs.Inside.{rgb-inside}
 use Rattle.payload.specs.Answers.{rgb_answer}
 use Rattle.payload.proofs.LetElse.{got_of, colour-else}

@@ -1,5 +1,4 @@
 -- `lexer::Lexer::read_string` meets its contract. Assumes nothing.
-use borrow.Author.Rules.{rules}
 use mathlib.Core.Path.{refl}
 use Rattle.form.specs.Readers.{at}
 use Rattle.form.specs.Reading.{string}

@@ -1,5 +1,4 @@
 -- `lexer::Lexer::read_token` meets its contract. Assumes nothing.
-use borrow.Author.Rules.{rules}
 use Rattle.token.specs.Tokens.{token_answer}
 use Rattle.payload.proofs.LetElse.{got_of}
 use Rattle.token.proofs.LetElse.{token-else}

@@ -1,5 +1,4 @@
 -- `lexer::Lexer::read_u32` meets its contract. Assumes nothing.
-use borrow.Author.Rules.{rules}
 use native.Mathlib.Omega.{arith}
 use mathlib.Core.Path.{refl}
 use Rattle.laws.proofs.Inside.{num-inside}

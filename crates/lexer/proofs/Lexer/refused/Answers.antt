@@ -1,5 +1,4 @@
 -- `lexer::Lexer::refused` meets its contract. Assumes nothing.
-use borrow.Author.Rules.{rules}
 use mathlib.Core.Path.{sym, ap, ◌∙◌}
 use Rattle.form.specs.Calls.{refuses, ended, reads}
 use Rattle.laws.proofs.Cursors.{within_in}

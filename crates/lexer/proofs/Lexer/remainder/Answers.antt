@@ -1,5 +1,4 @@
 -- `lexer::Lexer::remainder` meets its contract. Assumes nothing.
-use borrow.Author.Rules.{rules}
 use native.Mathlib.Omega.{arith}
 use mathlib.Core.Path.{sym}
 use Rattle.laws.proofs.Cursors.{within_in}

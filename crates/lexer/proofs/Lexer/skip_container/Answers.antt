@@ -1,5 +1,4 @@
 -- `lexer::Lexer::skip_container` meets its contract. Assumes nothing.
-use borrow.Author.Rules.{rules}
 use Rattle.form.specs.Calls.{skips}
 use Rattle.laws.proofs.SkipSteps.{container-by}
 use Rattle.lexer.proofs.Endings.{told-inside, told-outside, skipped, lands}

@@ -1,5 +1,4 @@
 -- `lexer::Lexer::walk` meets its contract. Assumes nothing.
-use borrow.Author.Rules.{rules}
 use Rattle.lexer.specs.Calls.{cursor_of}
 use Rattle.lexer.proofs.Endings.{inside, reaches}
 use Rattle.lexer.proofs.SoughtKeys.{tell-key, tell-absent, tell-refused, key-inside, refused-inside}

@@ -1,6 +1,5 @@
 -- `payload::colour::begins` meets its contract. Assumes nothing.
 use mathlib.Core.Path.{sym, ◌∙◌}
-use borrow.Author.Rules.{rules}
 use borrow.Author.Tests.{not-true, not-false}
 use Rattle.form.specs.Reading.{headed}
 use Rattle.laws.proofs.Lookups.{open_is, channel-is}

@@ -2,7 +2,6 @@
 use Rattle.laws.proofs.Lookups.{close-is, channel-is}
 use Rattle.laws.proofs.Places.{ending-then}
 use borrow.Author.Tests.{eq-eqb, ne_eqb}
-use borrow.Author.Rules.{rules}
 use Rattle.payload.proofs.colour.closing.Goals as goal
 
 pub returns-in-4 : goal.returns-in-4

@@ -1,6 +1,5 @@
 -- `payload::colour::read_channel` meets its contract. Assumes nothing.
 use mathlib.Core.Path.{refl}
-use borrow.Author.Rules.{rules}
 use Rattle.form.specs.Readers.{and_then}
 use Rattle.laws.proofs.Places.{channel-then}
 use Rattle.payload.specs.Answers.{u32_answer, id_answer}

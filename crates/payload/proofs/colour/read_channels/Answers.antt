@@ -1,6 +1,5 @@
 -- `payload::colour::read_channels` meets its contract. Assumes nothing.
 use mathlib.Core.Path.{refl, sym}
-use borrow.Author.Rules.{rules}
 use Rattle.form.specs.Readers.{and_then}
 use Rattle.laws.proofs.Places.{channels-then}
 use Rattle.payload.specs.Answers.{id_answer}

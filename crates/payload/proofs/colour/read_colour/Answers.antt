@@ -1,6 +1,5 @@
 -- `payload::colour::read_colour` meets its contract. Assumes nothing.
 use mathlib.Core.Path.{refl, sym, ◌∙◌}
-use borrow.Author.Rules.{rules}
 use Rattle.form.specs.Reading.{rgb}
 use Rattle.payload.specs.Answers.{text_answer, text_of}
 use Rattle.payload.proofs.LetElse.{got_of, lack_of}

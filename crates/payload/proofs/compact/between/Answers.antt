@@ -1,13 +1,12 @@
 -- `payload::compact::between` meets its contract: x is the number of the bytes from i on, and is below 256 to their count. Assumes nothing.
-use Prim.Native.Nat.{suc, ◌-◌, ◌^◌, ◌≤◌, ◌<◌}
+use Prim.Native.Nat.{suc, ◌-◌, ◌≤◌}
 use native.Mathlib.Nat.{pow-succ'}
 use native.Mathlib.Omega.{arith}
 use mathlib.Core.Path.{◌≡◌, sym, ◌∙◌}
-use borrow.Author.Rules.{rules}
 use lib.Dec.{lit<}
 use lib.ListN.{length-drop}
 use Rattle.laws.proofs.LittleEndian.{within}
-use Rattle.payload.proofs.HighestFirst.{upper, upper-end, upper-more, upper-all}
+use Rattle.payload.proofs.HighestFirst.{upper-end, upper-more, upper-all}
 use Rattle.payload.proofs.compact.between.Goals as goal
 
 pub loop-i-init : goal.loop-i-init

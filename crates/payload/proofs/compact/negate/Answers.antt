@@ -2,7 +2,6 @@
 use native.Mathlib.Omega.{arith}
 use mathlib.Core.Path.{◌∙◌}
 use mir.Syntax.{w64}
-use borrow.Author.Rules.{rules}
 use Rattle.payload.proofs.Signed.{negation-fits, negation-bits}
 use Rattle.payload.proofs.compact.negate.Goals as goal
 

@@ -2,7 +2,6 @@
 use mathlib.Core.Path.{refl, sym}
 use native.Mathlib.Omega.{arith}
 use lib.ListN.{length-drop}
-use borrow.Author.Rules.{rules}
 use Rattle.laws.proofs.Places.{num-there, took}
 use Rattle.payload.specs.Answers.{text_answer, text_of}
 use Rattle.payload.proofs.LetElse.{got_of, lack_of}

@@ -1,7 +1,6 @@
 -- `payload::numbers::read_width32` meets its contract. Assumes nothing.
 use mathlib.Core.Path.{refl, sym}
 use native.Mathlib.Omega.{arith}
-use borrow.Author.Rules.{rules}
 use Rattle.laws.proofs.LittleEndian.{within}
 use Rattle.laws.proofs.Places.{num-lt}
 use Rattle.payload.specs.Answers.{u64_answer}

@@ -4,7 +4,6 @@ use Prim.Native.Nat.{◌-◌}
 use native.Mathlib.Omega.{arith}
 use mir.Syntax.{w32}
 use Rattle.payload.proofs.Signed.{less-fits, high_half}
-use borrow.Author.Rules.{rules}
 use Rattle.payload.proofs.numbers.signed32.Goals as goal
 
 pub overflow_sub-result-else-x-lt2147483648 : goal.overflow_sub-result-else-x-lt2147483648

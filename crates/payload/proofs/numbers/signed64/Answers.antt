@@ -5,7 +5,6 @@ use native.Mathlib.Omega.{arith}
 use mir.Syntax.{w64}
 use Rattle.form.specs.Numbers.{MAX}
 use Rattle.payload.proofs.Signed.{less-fits, high_half}
-use borrow.Author.Rules.{rules}
 use Rattle.payload.proofs.numbers.signed64.Goals as goal
 
 pub overflow_sub-result-else-x-lt9223372036854775808 : goal.overflow_sub-result-else-x-lt9223372036854775808

@@ -4,7 +4,6 @@ use native.Mathlib.Omega.{arith}
 use mathlib.Core.Path.{◌≡◌, ap, ◌∙◌}
 use mathlib.Core.Option.{some}
 use Rattle.skip.proofs.Passing.{compact-steps, negated-steps}
-use borrow.Author.Rules.{rules}
 use Rattle.skip.proofs.walk.compact_width.Goals as goal
 
 pub returns-then-offset-le7 : goal.returns-then-offset-le7

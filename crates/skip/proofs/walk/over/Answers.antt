@@ -6,7 +6,6 @@ use Rattle.payload.specs.Answers.{text_answer}
 use Rattle.payload.proofs.LetElse.{got_of, lack_of}
 use Rattle.skip.proofs.Passing.{got, got-not}
 use Rattle.skip.proofs.Turns.{cut_short, deeper, out, higher, onward, over-at}
-use borrow.Author.Rules.{rules}
 use Rattle.skip.proofs.walk.over.Goals as goal
 
 pub returns-then-depth-lt2 : goal.returns-then-depth-lt2

@@ -1,12 +1,8 @@
 -- `skip::walk::skip_from` meets its contract. Assumes nothing.
-use Prim.Native.Nat.{◌≤◌, ◌*◌, ◌-◌}
 use native.Mathlib.Omega.{arith}
-use mathlib.Core.Path.{◌≡◌, refl, ◌∙◌}
-use lib.ListN.{length}
-use borrow.Author.Rules.{rules}
+use mathlib.Core.Path.{refl, ◌∙◌}
 use Rattle.payload.specs.Answers.{id_answer}
 use Rattle.payload.proofs.LetElse.{got_of, lack_of}
-use Rattle.skip.specs.Walks.{walk_after}
 use Rattle.skip.proofs.Turns.{known, ends, goes_on}
 use Rattle.skip.proofs.walk.skip_from.Goals as goal
 

@@ -10,7 +10,6 @@ use Rattle.laws.proofs.Lookups.{arm}
 use Rattle.payload.specs.Answers.{text_of}
 use Rattle.skip.specs.Walks.{steps_over}
 use Rattle.skip.proofs.Passing.{passed, bare}
-use borrow.Author.Rules.{rules}
 use Rattle.skip.proofs.walk.skip_payload.Goals as goal
 
 -- the ids of each arm

@@ -1,6 +1,5 @@
 -- `token::texts::text` meets its contract. Assumes nothing.
 use native.Mathlib.Omega.{arith}
-use borrow.Author.Rules.{rules}
 use Rattle.payload.proofs.Texts.{within, beyond}
 use Rattle.token.proofs.texts.text.Goals as goal
 

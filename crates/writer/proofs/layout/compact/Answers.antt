@@ -1,5 +1,4 @@
 -- `writer::layout::compact` meets its contract. Assumes nothing.
-use borrow.Author.Rules.{rules}
 use native.Mathlib.Omega.{arith}
 use Rattle.writer.proofs.ShortLayouts.{compact-out, long-out}
 use Rattle.writer.proofs.layout.compact.Goals as goal

@@ -1,5 +1,4 @@
 -- `writer::layout::compact_negated` meets its contract. Assumes nothing.
-use borrow.Author.Rules.{rules}
 use native.Mathlib.Omega.{arith}
 use Rattle.writer.proofs.ShortLayouts.{negated-out, long-negated-out}
 use Rattle.writer.proofs.layout.compact_negated.Goals as goal

@@ -1,5 +1,4 @@
 -- `writer::layout::shortest` meets its contract. Assumes nothing.
-use borrow.Author.Rules.{rules}
 use Rattle.writer.proofs.ShortLayouts.{other-out}
 use borrow.Enum.Refused.{opened}
 use Rattle.writer.proofs.layout.shortest.Goals as goal

@@ -1,5 +1,4 @@
 -- `writer::layout::width_of` meets its contract: a number's leading zeros tell how many bytes it has. Assumes nothing.
-use borrow.Author.Rules.{rules}
 use native.Mathlib.Omega.{arith}
 use lib.Count.{leading_le}
 use Rattle.laws.proofs.Widths.{leading-width}

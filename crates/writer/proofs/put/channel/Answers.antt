@@ -1,5 +1,4 @@
 -- `writer::put::channel` meets its contract. Assumes nothing.
-use borrow.Author.Rules.{rules}
 use Rattle.form.specs.Spelling.{spelled_channel}
 use Rattle.laws.proofs.Lookups.{channel-is}
 use Rattle.writer.proofs.put.channel.Goals as goal

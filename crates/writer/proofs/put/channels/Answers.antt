@@ -1,5 +1,4 @@
 -- `writer::put::channels` meets its contract. Assumes nothing.
-use borrow.Author.Rules.{rules}
 use native.Mathlib.Omega.{arith}
 use Rattle.laws.proofs.ReadsBack.{channel-length}
 use Rattle.laws.proofs.Puts.{put_then}

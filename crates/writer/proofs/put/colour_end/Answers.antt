@@ -1,5 +1,4 @@
 -- `writer::put::colour_end` meets its contract. Assumes nothing.
-use borrow.Author.Rules.{rules}
 use native.Mathlib.Omega.{arith}
 use Rattle.form.specs.Spelling.{spelled_alpha}
 use Rattle.laws.proofs.Lookups.{close-is}

@@ -1,5 +1,4 @@
 -- `writer::put::id_number` meets its contract. Assumes nothing.
-use borrow.Author.Rules.{rules}
 use native.Mathlib.Omega.{arith}
 use Rattle.laws.proofs.LittleEndian.{length-bytes}
 use Rattle.laws.proofs.Puts.{put_then}

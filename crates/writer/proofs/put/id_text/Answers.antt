@@ -1,5 +1,4 @@
 -- `writer::put::id_text` meets its contract. Assumes nothing.
-use borrow.Author.Rules.{rules}
 use native.Mathlib.Omega.{arith}
 use lib.ListN.{length}
 use Rattle.laws.proofs.LittleEndian.{length-bytes}

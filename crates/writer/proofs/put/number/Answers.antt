@@ -1,11 +1,8 @@
 -- `writer::put::number` meets its contract. The invariant: what is still to be written, written to the output as it is, gives what the
 -- contract says. Assumes nothing.
-use mathlib.Core.Path.{◌≡◌, refl, ◌∙◌}
-use Prim.Native.Nat.{◌+◌}
+use mathlib.Core.Path.{refl, ◌∙◌}
 use native.Mathlib.Omega.{arith}
-use lib.ListN.{length, length-set}
-use lib.Seq.{sets}
-use Rattle.form.specs.Numbers.{le_bytes}
+use lib.ListN.{length-set}
 use Rattle.laws.proofs.LittleEndian.{length-bytes}
 use Rattle.writer.proofs.Stores.{number_step, number-done}
 use Rattle.writer.proofs.put.number.Goals as goal
