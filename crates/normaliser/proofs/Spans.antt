@@ -1,7 +1,7 @@
 -- What follows an id, as the code's arms have it, and what that says of a token. Assumes nothing.
-use Prim.Native.Nat.{ℕ, ◌-◌, ◌≤◌, ◌<◌}
+use Prim.Native.Nat.{ℕ, ◌-◌, ◌≤◌}
 use native.Mathlib.Omega.{arith}
-use mathlib.Core.Path.{◌≡◌, refl, sym, ap, subst, ◌∙◌}
+use mathlib.Core.Path.{◌≡◌, refl, sym, ap, ◌∙◌}
 use mathlib.Core.Bool.{Bool, true, false, ◌||◌, or-true}
 use mathlib.Core.Option.{Option, none, some}
 use mathlib.Core.List.{List}
@@ -10,7 +10,7 @@ use borrow.Author.Tests.{eqb-true, eqb-false, leb-true, le-leb}
 use Rattle.form.specs.Numbers.{pick, le}
 use Rattle.form.specs.Values as F
 use Rattle.form.specs.Values.{Value, kind}
-use Rattle.form.specs.Table.{Payload, number, text, colour, table, entries, find, or_plain, after, reserved}
+use Rattle.form.specs.Table.{Payload, number, text, colour, table, entries, find, or_plain, after}
 use Rattle.form.specs.Refusals.{Fault}
 use Rattle.form.specs.Readers.{Answer, found, refused, and_then, mapped, at}
 use Rattle.form.specs.Reading.{next, num, string, rgb, payload, token}
@@ -20,7 +20,7 @@ use Rattle.laws.proofs.Lookups.{plain-after, compact-in, negated-in}
 use Rattle.laws.proofs.Elsewhere.{each_id, listed, MissedAll, elsewhere}
 use Rattle.laws.proofs.Places.{at-giving, at-nothing, by-id, token-then}
 use Rattle.laws.proofs.ById.{open_after_lem, close-after}
-use Rattle.normaliser.specs.Passings.{span_of, Ends, Past, Tells, Told}
+use Rattle.normaliser.specs.Passings.{span_of, Ends, Past, Told}
 use Rattle.normaliser.specs.declared.telling.Passed.{Passed}
 use Rattle.normaliser.specs.declared.telling.Passed.TheVariants.{Open, Close, Other, Refused}
 

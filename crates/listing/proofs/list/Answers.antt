@@ -10,7 +10,6 @@ use Rattle.laws.proofs.LittleEndian.{bytes-all}
 use Rattle.laws.proofs.Runs.{sets-front}
 use Rattle.form.specs.Numbers.{MAX}
 use Rattle.listing.proofs.Answer.{none_left, too_long, measured, fits, lacks}
-use borrow.Author.Rules.{rules}
 use Rattle.listing.proofs.list.Goals as goal
 
 pub returns-then-len-gt-LIMIT : goal.returns-then-len-gt-LIMIT

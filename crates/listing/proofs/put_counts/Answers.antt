@@ -1,7 +1,6 @@
 -- `listing::put_counts` meets its contract. Assumes nothing.
 use Rattle.form.specs.Listing.{count_words}
 use Rattle.text.proofs.Words.{put-words}
-use borrow.Author.Rules.{rules}
 use Rattle.listing.proofs.put_counts.Goals as goal
 
 pub returns : goal.returns

@@ -3,7 +3,6 @@ use Rattle.form.specs.Ascii.{line}
 use Rattle.form.specs.Listing.{end_line}
 use Rattle.laws.proofs.Puts.{put_then}
 use Rattle.text.proofs.Words.{put-words}
-use borrow.Author.Rules.{rules}
 use Rattle.listing.proofs.put_end.Goals as goal
 
 pub returns : goal.returns

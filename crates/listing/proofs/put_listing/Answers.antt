@@ -1,20 +1,16 @@
 -- `listing::put_listing` meets its contract. The invariant: what is left to write, written to the output as it is, gives what the promise says.
 -- Assumes nothing.
-use borrow.Author.Rules.{rules}
-use mathlib.Core.Path.{◌≡◌, ap, ◌∙◌}
-use Prim.Native.Nat.{◌+◌, ◌-◌, ◌≤◌}
+use mathlib.Core.Path.{◌≡◌, ap}
+use Prim.Native.Nat.{◌+◌}
 use native.Mathlib.Omega.{arith}
-use lib.ListN.{length}
-use Rattle.form.specs.Listing.{listing}
 use Rattle.payload.proofs.LetElse.{got_of}
 use Rattle.token.proofs.LetElse.{token-else}
-use Rattle.laws.proofs.Puts.{Left, left-all, left_step, left-last}
+use Rattle.laws.proofs.Puts.{left-all, left_step, left-last}
 use Rattle.token.specs.Tokens.{value_of, token_answer}
 use Rattle.token.proofs.Walks.{token-read, token-refused}
 use Rattle.listing.specs.declared.tally.Tally.{Tally}
-use Rattle.listing.specs.Tallies.{Sound}
 use Rattle.listing.proofs.Counting.{sound_none, sound-step}
-use Rattle.listing.proofs.Reading.{rest, rest_all, rest_end, rest-token, rest-refused}
+use Rattle.listing.proofs.Reading.{rest_all, rest_end, rest-token, rest-refused}
 use borrow.Enum.Refused.{opened}
 use Rattle.listing.proofs.put_listing.Goals as goal
 

@@ -1,7 +1,6 @@
 -- `listing::put_refusal` meets its contract. Assumes nothing.
 use Rattle.form.specs.Refusals.{refusal_values, refusal_value, refusal_at}
 use Rattle.form.specs.Listing.{refusal_word, error_line}
-use borrow.Author.Rules.{rules}
 use Rattle.listing.proofs.put_refusal.Goals as goal
 
 pub returns-in-Eof : goal.returns-in-Eof

@@ -1,12 +1,8 @@
 -- `normaliser::pass` meets its contract. The invariant is `Going`: what the tokens so far are spelled by is counted, and in the output if
 -- it fits. Assumes nothing.
-use borrow.Author.Rules.{rules}
-use Prim.Native.Nat.{◌-◌}
 use native.Mathlib.Omega.{arith}
-use lib.ListN.{length}
-use Rattle.normaliser.specs.Stretches.{normal_style}
 use Rattle.normaliser.proofs.Spelled.{ran-float, ran-lookup, ran-otherwise}
-use Rattle.normaliser.proofs.Passing.{Going, going_start, going_end, bounded, run-there, went_on, float-on, lookup-on, turned, stopped}
+use Rattle.normaliser.proofs.Passing.{going_start, going_end, bounded, run-there, went_on, float-on, lookup-on, turned, stopped}
 use Rattle.normaliser.proofs.pass.Goals as goal
 
 pub loop-end-init : goal.loop-end-init

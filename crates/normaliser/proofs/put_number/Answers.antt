@@ -1,5 +1,4 @@
 -- `normaliser::put_number` meets its contract. Assumes nothing.
-use borrow.Author.Rules.{rules}
 use native.Mathlib.Omega.{arith}
 use Rattle.writer.proofs.Sizes.{number_size}
 use Rattle.normaliser.proofs.Passing.{appends}

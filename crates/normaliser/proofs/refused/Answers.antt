@@ -1,6 +1,5 @@
 -- `normaliser::refused` meets its contract. Assumes nothing.
 use Rattle.form.specs.Refusals.{refusal_at}
-use borrow.Author.Rules.{rules}
 use Rattle.normaliser.proofs.refused.Goals as goal
 
 pub returns-in-Eof : goal.returns-in-Eof

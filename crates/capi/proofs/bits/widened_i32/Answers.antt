@@ -2,7 +2,6 @@
 use mathlib.Core.Path.{ap, ◌∙◌}
 use mir.Syntax.{w64}
 use mir.Val.{of_z}
-use borrow.Author.Rules.{rules}
 use Rattle.laws.proofs.Signs.{widens, widened}
 use Rattle.capi.proofs.bits.widened_i32.Goals as goal
 

@@ -1,17 +1,13 @@
 -- `capi::counting::count` meets its contract. The loop's invariant: what is counted so far, with the walk from here, gives the reply for the
 -- whole. Assumes nothing.
-use Prim.Native.Nat.{◌-◌, ◌≤◌, zero-le}
+use Prim.Native.Nat.{zero-le}
 use native.Mathlib.Omega.{arith}
-use mathlib.Core.Path.{◌≡◌, sym, ◌∙◌}
-use lib.ListN.{length}
-use borrow.Author.Rules.{rules}
-use Rattle.form.specs.Saves.{from}
+use mathlib.Core.Path.{sym, ◌∙◌}
 use Rattle.payload.proofs.LetElse.{got_of}
 use Rattle.token.proofs.LetElse.{token-else}
 use Rattle.token.specs.Tokens.{token_answer}
 use Rattle.token.proofs.Walks.{token-read}
 use Rattle.lexer.specs.Calls.{refusal_of}
-use Rattle.capi.specs.Counting.{counting, count_reply}
 use Rattle.capi.proofs.Counts.{at-start, at-end, counted, cut_off_lem}
 use borrow.Enum.Refused.{opened}
 use Rattle.capi.proofs.counting.count.Goals as goal

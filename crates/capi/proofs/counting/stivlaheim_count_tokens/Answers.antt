@@ -1,5 +1,4 @@
 -- `capi::counting::stivlaheim_count_tokens` meets its contract. Assumes nothing.
-use borrow.Author.Rules.{rules}
 use Rattle.capi.proofs.counting.stivlaheim_count_tokens.Goals as goal
 
 pub returns : goal.returns

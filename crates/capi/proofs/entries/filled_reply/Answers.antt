@@ -1,6 +1,5 @@
 -- `capi::entries::filled_reply` meets its contract. Assumes nothing.
 use Rattle.form.specs.Refusals.{refusal_number, refusal_values}
-use borrow.Author.Rules.{rules}
 use Rattle.capi.proofs.entries.filled_reply.Goals as goal
 
 pub returns-in-Listed : goal.returns-in-Listed

@@ -1,6 +1,5 @@
 -- `capi::entries::opened_reply` meets its contract. Assumes nothing.
 use Rattle.form.specs.Refusals.{refusal_number, refusal_values}
-use borrow.Author.Rules.{rules}
 use Rattle.capi.proofs.entries.opened_reply.Goals as goal
 
 pub returns-in-Listed : goal.returns-in-Listed

@@ -1,6 +1,5 @@
 -- `capi::entries::searched_reply` meets its contract. Assumes nothing.
 use Rattle.form.specs.Refusals.{refusal_number, refusal_values}
-use borrow.Author.Rules.{rules}
 use Rattle.capi.proofs.entries.searched_reply.Goals as goal
 
 pub returns-in-Held : goal.returns-in-Held

@@ -1,5 +1,4 @@
 -- `capi::entries::stivlaheim_contents_search` meets its contract. Assumes nothing.
-use borrow.Author.Rules.{rules}
 use Rattle.capi.proofs.entries.stivlaheim_contents_search.Goals as goal
 
 pub returns : goal.returns

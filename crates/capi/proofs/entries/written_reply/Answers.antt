@@ -1,6 +1,5 @@
 -- `capi::entries::written_reply` meets its contract. Assumes nothing.
 use Rattle.form.specs.Refusals.{refusal_number, refusal_values}
-use borrow.Author.Rules.{rules}
 use Rattle.capi.proofs.entries.written_reply.Goals as goal
 
 pub returns-in-Written : goal.returns-in-Written

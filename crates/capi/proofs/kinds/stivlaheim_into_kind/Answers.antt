@@ -1,6 +1,5 @@
 -- `capi::kinds::stivlaheim_into_kind` meets its contract. Assumes nothing.
 use mathlib.Core.Path.{◌∙◌}
-use borrow.Author.Rules.{rules}
 use Rattle.capi.proofs.kinds.stivlaheim_into_kind.Goals as goal
 
 pub returns : goal.returns

@@ -1,5 +1,4 @@
 -- `capi::lexer_replies::of_find` meets its contract. Assumes nothing.
-use borrow.Author.Rules.{rules}
 use Rattle.capi.proofs.lexer_replies.of_find.Goals as goal
 
 pub returns-in-Found : goal.returns-in-Found

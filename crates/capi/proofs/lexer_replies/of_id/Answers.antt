@@ -1,5 +1,4 @@
 -- `capi::lexer_replies::of_id` meets its contract. Assumes nothing.
-use borrow.Author.Rules.{rules}
 use Rattle.capi.proofs.lexer_replies.of_id.Goals as goal
 
 pub returns-in-Got : goal.returns-in-Got

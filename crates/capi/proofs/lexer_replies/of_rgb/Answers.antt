@@ -1,6 +1,5 @@
 -- `capi::lexer_replies::of_rgb` meets its contract. Assumes nothing.
 use Rattle.token.proofs.Payloads.{colour-token}
-use borrow.Author.Rules.{rules}
 use Rattle.capi.proofs.lexer_replies.of_rgb.Goals as goal
 
 pub returns-in-Got : goal.returns-in-Got

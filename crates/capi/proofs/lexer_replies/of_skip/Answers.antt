@@ -1,5 +1,4 @@
 -- `capi::lexer_replies::of_skip` meets its contract. Assumes nothing.
-use borrow.Author.Rules.{rules}
 use Rattle.capi.proofs.lexer_replies.of_skip.Goals as goal
 
 pub returns-in-Done : goal.returns-in-Done

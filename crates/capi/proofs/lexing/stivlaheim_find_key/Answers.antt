@@ -1,5 +1,4 @@
 -- `capi::lexing::stivlaheim_find_key` meets its contract. Assumes nothing.
-use borrow.Author.Rules.{rules}
 use Rattle.capi.proofs.lexing.stivlaheim_find_key.Goals as goal
 
 pub returns : goal.returns

@@ -1,5 +1,4 @@
 -- `capi::lexing::stivlaheim_next_id` meets its contract. Assumes nothing.
-use borrow.Author.Rules.{rules}
 use Rattle.capi.proofs.lexing.stivlaheim_next_id.Goals as goal
 
 pub returns : goal.returns

@@ -1,5 +1,4 @@
 -- `capi::lexing::stivlaheim_read_token` meets its contract. Assumes nothing.
-use borrow.Author.Rules.{rules}
 use Rattle.capi.proofs.lexing.stivlaheim_read_token.Goals as goal
 
 pub returns : goal.returns

@@ -1,5 +1,4 @@
 -- `capi::lexing::stivlaheim_skip_container` meets its contract. Assumes nothing.
-use borrow.Author.Rules.{rules}
 use Rattle.capi.proofs.lexing.stivlaheim_skip_container.Goals as goal
 
 pub returns : goal.returns

@@ -1,5 +1,4 @@
 -- `capi::lexing::stivlaheim_skip_value` meets its contract. Assumes nothing.
-use borrow.Author.Rules.{rules}
 use Rattle.capi.proofs.lexing.stivlaheim_skip_value.Goals as goal
 
 pub returns : goal.returns

@@ -1,5 +1,4 @@
 -- `capi::offered::given` meets its contract. Assumes nothing.
-use borrow.Author.Rules.{rules}
 use borrow.Author.Tests.{le-leb, lt-leb}
 use Rattle.capi.specs.Offered.{offered_token}
 use Rattle.capi.proofs.offered.given.Goals as goal

@@ -5,7 +5,6 @@ use mir.Syntax.{w32}
 use Rattle.form.specs.Numbers.{MAX}
 use Rattle.payload.proofs.Signed.{less-fits}
 use Rattle.capi.proofs.Ranges.{low, between, high}
-use borrow.Author.Rules.{rules}
 use Rattle.capi.proofs.offered.i32_token.Goals as goal
 
 pub returns-then-x-lt2147483648 : goal.returns-then-x-lt2147483648

@@ -1,6 +1,5 @@
 -- `capi::offered::id_token` meets its contract. Assumes nothing.
 use borrow.Author.Tests.{le-leb, lt-leb}
-use borrow.Author.Rules.{rules}
 use Rattle.capi.proofs.offered.id_token.Goals as goal
 
 pub returns-then-x-gt65535 : goal.returns-then-x-gt65535

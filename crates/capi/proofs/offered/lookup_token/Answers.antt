@@ -1,6 +1,5 @@
 -- `capi::offered::lookup_token` meets its contract. Assumes nothing.
 use borrow.Author.Tests.{le-leb, lt-leb}
-use borrow.Author.Rules.{rules}
 use Rattle.capi.proofs.offered.lookup_token.Goals as goal
 
 pub returns-then-x-gt4294967295 : goal.returns-then-x-gt4294967295

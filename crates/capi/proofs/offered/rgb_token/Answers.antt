@@ -1,6 +1,5 @@
 -- `capi::offered::rgb_token` meets its contract. Assumes nothing.
 use borrow.Author.Tests.{le-leb, lt-leb, eq-eqb, ne_eqb}
-use borrow.Author.Rules.{rules}
 use Rattle.capi.proofs.offered.rgb_token.Goals as goal
 
 pub returns-then-r-gt4294967295 : goal.returns-then-r-gt4294967295

@@ -1,7 +1,6 @@
 -- `capi::parts::split_reply` meets its contract. Assumes nothing.
 use mathlib.Core.Path.{ap}
 use lib.ListN.{length}
-use borrow.Author.Rules.{rules}
 use Rattle.capi.proofs.parts.split_reply.Goals as goal
 
 pub returns-in-At : goal.returns-in-At

@@ -1,5 +1,4 @@
 -- `capi::parts::stivlaheim_get_split` meets its contract. Assumes nothing.
-use borrow.Author.Rules.{rules}
 use Rattle.capi.proofs.parts.stivlaheim_get_split.Goals as goal
 
 pub returns : goal.returns

@@ -1,5 +1,4 @@
 -- `capi::parts::stivlaheim_text` meets its contract. Assumes nothing.
-use borrow.Author.Rules.{rules}
 use Rattle.capi.proofs.parts.stivlaheim_text.Goals as goal
 
 pub returns : goal.returns

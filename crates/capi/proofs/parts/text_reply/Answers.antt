@@ -1,6 +1,5 @@
 -- `capi::parts::text_reply` meets its contract. Assumes nothing.
 use Rattle.lexer.specs.Calls.{refusal_of}
-use borrow.Author.Rules.{rules}
 use Rattle.capi.proofs.parts.text_reply.Goals as goal
 
 pub returns-in-Within : goal.returns-in-Within

@@ -1,7 +1,6 @@
 -- `capi::replies::refused` meets its contract. Assumes nothing.
 use Rattle.form.specs.Refusals.{refusal_at, refusal_number, refusal_values}
 use Rattle.lexer.specs.Calls.{refusal_of}
-use borrow.Author.Rules.{rules}
 use Rattle.capi.proofs.replies.refused.Goals as goal
 
 pub returns-in-Eof : goal.returns-in-Eof

@@ -2,7 +2,6 @@
 use native.Mathlib.Omega.{arith}
 use mathlib.Core.Path.{refl}
 use lib.ListN.{length-set}
-use borrow.Author.Rules.{rules}
 use Rattle.capi.proofs.LentLists.{too_short_lem, filled}
 use Rattle.capi.proofs.replies.store.Goals as goal
 

@@ -1,6 +1,5 @@
 -- `capi::rescuing::rescued_reply` meets its contract. Assumes nothing.
 use Rattle.form.specs.Refusals.{refusal_number, refusal_values}
-use borrow.Author.Rules.{rules}
 use Rattle.capi.proofs.rescuing.rescued_reply.Goals as goal
 
 pub returns-in-Written : goal.returns-in-Written

@@ -1,7 +1,6 @@
 -- `capi::rescuing::stivlaheim_rescue` meets its contract. Assumes nothing.
 use borrow.Author.Tests.{le-leb, lt-leb}
 use Rattle.capi.proofs.LentLists.{too_short_lem}
-use borrow.Author.Rules.{rules}
 use Rattle.capi.proofs.rescuing.stivlaheim_rescue.Goals as goal
 
 pub returns-then-answer-lt8 : goal.returns-then-answer-lt8

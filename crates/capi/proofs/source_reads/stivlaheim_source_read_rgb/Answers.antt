@@ -1,7 +1,6 @@
 -- `capi::source_reads::stivlaheim_source_read_rgb` meets its contract. Assumes nothing.
 use Rattle.source.specs.Answers.{rgb_answer}
 use Rattle.capi.proofs.Called.{not-asked, six-words, called-by}
-use borrow.Author.Rules.{rules}
 use Rattle.capi.proofs.source_reads.stivlaheim_source_read_rgb.Goals as goal
 
 pub returns-in_default : goal.returns-in_default

@@ -1,6 +1,5 @@
 -- `capi::source_replies::got` meets its contract. Assumes nothing.
 use Rattle.capi.proofs.Called.{leaving}
-use borrow.Author.Rules.{rules}
 use Rattle.capi.proofs.source_replies.got.Goals as goal
 
 pub returns : goal.returns

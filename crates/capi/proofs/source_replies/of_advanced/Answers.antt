@@ -1,5 +1,4 @@
 -- `capi::source_replies::of_advanced` meets its contract. Assumes nothing.
-use borrow.Author.Rules.{rules}
 use Rattle.capi.proofs.source_replies.of_advanced.Goals as goal
 
 pub returns-in-Moved : goal.returns-in-Moved

@@ -1,5 +1,4 @@
 -- `capi::source_replies::of_ensured` meets its contract. Assumes nothing.
-use borrow.Author.Rules.{rules}
 use Rattle.capi.proofs.source_replies.of_ensured.Goals as goal
 
 pub returns-in-Ready : goal.returns-in-Ready

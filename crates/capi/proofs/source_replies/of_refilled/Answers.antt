@@ -1,5 +1,4 @@
 -- `capi::source_replies::of_refilled` meets its contract. Assumes nothing.
-use borrow.Author.Rules.{rules}
 use Rattle.capi.proofs.source_replies.of_refilled.Goals as goal
 
 pub returns-in-Read : goal.returns-in-Read

@@ -6,7 +6,6 @@ use Rattle.token.proofs.Payloads.{colour-token}
 use Rattle.capi.specs.Replies.{answered}
 use Rattle.capi.specs.Words.{held_words, colour_words}
 use Rattle.capi.proofs.Called.{leaving}
-use borrow.Author.Rules.{rules}
 use Rattle.capi.proofs.source_replies.of_rgb.Goals as goal
 
 pub returns-in-Got : goal.returns-in-Got

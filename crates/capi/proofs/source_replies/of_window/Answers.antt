@@ -1,6 +1,5 @@
 -- `capi::source_replies::of_window` meets its contract. Assumes nothing.
 use Rattle.source.specs.Window.{drawn_then}
-use borrow.Author.Rules.{rules}
 use Rattle.capi.proofs.source_replies.of_window.Goals as goal
 
 pub returns-in-Got : goal.returns-in-Got

@@ -1,5 +1,4 @@
 -- `capi::source_replies::of_window_len` meets its contract. Assumes nothing.
-use borrow.Author.Rules.{rules}
 use Rattle.capi.proofs.source_replies.of_window_len.Goals as goal
 
 pub returns-in-Got : goal.returns-in-Got

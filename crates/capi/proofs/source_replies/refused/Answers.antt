@@ -1,6 +1,5 @@
 -- `capi::source_replies::refused` meets its contract. Assumes nothing.
 use Rattle.form.specs.Refusals.{refusal_number, refusal_values}
-use borrow.Author.Rules.{rules}
 use Rattle.capi.proofs.source_replies.refused.Goals as goal
 
 pub returns-in-Eof : goal.returns-in-Eof

@@ -1,5 +1,4 @@
 -- `capi::sources::stivlaheim_source_from_reader` meets its contract. Assumes nothing.
-use borrow.Author.Rules.{rules}
 use Rattle.capi.proofs.sources.stivlaheim_source_from_reader.Goals as goal
 
 pub returns : goal.returns

@@ -1,5 +1,4 @@
 -- `capi::sources::stivlaheim_source_from_slice` meets its contract. Assumes nothing.
-use borrow.Author.Rules.{rules}
 use Rattle.capi.proofs.sources.stivlaheim_source_from_slice.Goals as goal
 
 pub returns : goal.returns

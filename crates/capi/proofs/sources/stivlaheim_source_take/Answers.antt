@@ -1,7 +1,6 @@
 -- `capi::sources::stivlaheim_source_take` meets its contract. Assumes nothing.
 use Rattle.source.specs.Answers.{taken_answer}
 use Rattle.capi.proofs.Called.{not-asked, six-words, called-by}
-use borrow.Author.Rules.{rules}
 use Rattle.capi.proofs.sources.stivlaheim_source_take.Goals as goal
 
 pub returns-in_default : goal.returns-in_default

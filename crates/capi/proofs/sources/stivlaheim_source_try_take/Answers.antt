@@ -1,7 +1,6 @@
 -- `capi::sources::stivlaheim_source_try_take` meets its contract. Assumes nothing.
 use Rattle.source.specs.Answers.{tried_answer}
 use Rattle.capi.proofs.Called.{not-asked, six-words, called-by}
-use borrow.Author.Rules.{rules}
 use Rattle.capi.proofs.sources.stivlaheim_source_try_take.Goals as goal
 
 pub returns-in_default : goal.returns-in_default

@@ -5,7 +5,6 @@ use Rattle.source.specs.Window.{Drawn}
 use Rattle.source.specs.Answers.{window_len_answer}
 use Rattle.capi.specs.Sources.{as_part, window_part}
 use Rattle.capi.proofs.Called.{not-asked, six-words, called-by}
-use borrow.Author.Rules.{rules}
 use Rattle.capi.proofs.sources.stivlaheim_source_window.Goals as goal
 
 pub returns-in_default : goal.returns-in_default

@@ -1,7 +1,6 @@
 -- `capi::sources::stivlaheim_source_window_len` meets its contract. Assumes nothing.
 use Rattle.source.specs.Answers.{window_len_answer}
 use Rattle.capi.proofs.Called.{not-asked, six-words, called-by}
-use borrow.Author.Rules.{rules}
 use Rattle.capi.proofs.sources.stivlaheim_source_window_len.Goals as goal
 
 pub returns-in_default : goal.returns-in_default

@@ -3,7 +3,6 @@ use mathlib.Core.Path.{ap}
 use borrow.Author.Tests.{le-leb, lt-leb}
 use Rattle.capi.specs.Sources.{asked}
 use Rattle.capi.specs.declared.states.Asked.TheVariants.{State}
-use borrow.Author.Rules.{rules}
 use Rattle.capi.proofs.states.ask.Goals as goal
 
 pub returns-then-answer-lt8 : goal.returns-then-answer-lt8

@@ -1,7 +1,6 @@
 -- `capi::states::begin` meets its contract. Assumes nothing.
 use borrow.Author.Tests.{le-leb, lt-leb}
 use Rattle.capi.specs.Sources.{begun}
-use borrow.Author.Rules.{rules}
 use Rattle.capi.proofs.states.begin.Goals as goal
 
 pub returns-then-state-lt6 : goal.returns-then-state-lt6

@@ -2,7 +2,6 @@
 use native.Mathlib.Omega.{arith}
 use lib.ListN.{length-set}
 use Rattle.capi.proofs.Called.{state-stored}
-use borrow.Author.Rules.{rules}
 use Rattle.capi.proofs.states.put.Goals as goal
 
 pub bounds-state-1 : goal.bounds-state-1

@@ -1,6 +1,5 @@
 -- `capi::stepping::eight` meets its contract. Assumes nothing.
 use Rattle.capi.proofs.Eights.{all-eight}
-use borrow.Author.Rules.{rules}
 use Rattle.capi.proofs.stepping.eight.Goals as goal
 
 pub returns : goal.returns

@@ -2,7 +2,6 @@
 use mathlib.Core.Path.{◌≡◌, ap, ◌∙◌}
 use Rattle.form.specs.Fast.{Stepped, fast_step}
 use Rattle.fast.specs.Steps.{stepped}
-use borrow.Author.Rules.{rules}
 use Rattle.capi.proofs.stepping.step.Goals as goal
 
 pub returns : goal.returns

@@ -3,7 +3,6 @@ use Prim.Native.Nat.{ℕ}
 use mathlib.Core.Path.{ap, ◌∙◌}
 use mathlib.Core.List.{[], ◌∷◌}
 use Rattle.capi.specs.Replies.{answered}
-use borrow.Author.Rules.{rules}
 use Rattle.capi.proofs.stepping.step_reply.Goals as goal
 
 pub returns-in-Fast : goal.returns-in-Fast

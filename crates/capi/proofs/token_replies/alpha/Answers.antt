@@ -1,5 +1,4 @@
 -- `capi::token_replies::alpha` meets its contract. Assumes nothing.
-use borrow.Author.Rules.{rules}
 use Rattle.capi.proofs.token_replies.alpha.Goals as goal
 
 pub returns-in-Absent : goal.returns-in-Absent

@@ -1,7 +1,6 @@
 -- `capi::token_replies::of_rgb` meets its contract. Assumes nothing.
 use Rattle.form.specs.Values.{kind}
 use Rattle.token.specs.Tokens.{value_of}
-use borrow.Author.Rules.{rules}
 use Rattle.capi.proofs.token_replies.of_rgb.Goals as goal
 
 pub returns : goal.returns

@@ -1,6 +1,5 @@
 -- `capi::writing::normalised_reply` meets its contract. Assumes nothing.
 use Rattle.form.specs.Refusals.{refusal_number, refusal_values}
-use borrow.Author.Rules.{rules}
 use Rattle.capi.proofs.writing.normalised_reply.Goals as goal
 
 pub returns-in-Written : goal.returns-in-Written

@@ -1,7 +1,6 @@
 -- `capi::writing::stivlaheim_list` meets its contract. Assumes nothing.
 use borrow.Author.Tests.{le-leb, lt-leb}
 use Rattle.capi.proofs.LentLists.{too_short_lem}
-use borrow.Author.Rules.{rules}
 use Rattle.capi.proofs.writing.stivlaheim_list.Goals as goal
 
 pub returns-then-answer-lt8 : goal.returns-then-answer-lt8

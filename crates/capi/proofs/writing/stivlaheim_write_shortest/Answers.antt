@@ -2,7 +2,6 @@
 use borrow.Author.Tests.{le-leb}
 use Rattle.capi.specs.Offered.{write_returns, write_leaves}
 use Rattle.capi.proofs.Writes.{short-returns, short-leaves}
-use borrow.Author.Rules.{rules}
 use Rattle.capi.proofs.writing.stivlaheim_write_shortest.Goals as goal
 
 pub returns-then-answer-lt8 : goal.returns-then-answer-lt8

@@ -3,7 +3,6 @@ use native.Mathlib.Omega.{arith}
 use Rattle.form.specs.Ascii.{spaced}
 use Rattle.form.specs.Listing.{alpha_words}
 use Rattle.laws.proofs.Puts.{put-none}
-use borrow.Author.Rules.{rules}
 use Rattle.listing.proofs.line.put_alpha.Goals as goal
 
 pub returns-in-Absent : goal.returns-in-Absent

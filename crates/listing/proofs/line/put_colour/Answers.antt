@@ -1,6 +1,5 @@
 -- `listing::line::put_colour` meets its contract. Assumes nothing.
 use Rattle.text.proofs.Words.{put-words}
-use borrow.Author.Rules.{rules}
 use Rattle.listing.proofs.line.put_colour.Goals as goal
 
 pub returns : goal.returns

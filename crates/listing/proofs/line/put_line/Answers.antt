@@ -9,7 +9,6 @@ use Rattle.laws.proofs.Puts.{put_then}
 use Rattle.text.proofs.Words.{put-words}
 use Rattle.listing.specs.Shapes.{line_of}
 use Rattle.listing.proofs.Lines.{short}
-use borrow.Author.Rules.{rules}
 use Rattle.listing.proofs.line.put_line.Goals as goal
 
 pub slice_bounds-name-end : goal.slice_bounds-name-end

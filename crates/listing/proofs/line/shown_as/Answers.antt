@@ -2,7 +2,7 @@
 use mathlib.Core.Path.{◌≡◌}
 use mir.Syntax.{w32, w64}
 use mir.Val.{SFits, to_z, of_z}
-use Rattle.laws.proofs.Signs.{widens, widened}
+use Rattle.laws.proofs.Signs.{widened}
 use borrow.Author.Rules.{rules}
 use Rattle.listing.proofs.line.shown_as.Goals as goal
 

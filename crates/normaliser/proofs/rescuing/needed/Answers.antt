@@ -1,5 +1,4 @@
 -- `normaliser::rescuing::needed` meets its contract. Assumes nothing.
-use borrow.Author.Rules.{rules}
 use native.Mathlib.Omega.{arith}
 use Rattle.laws.proofs.Rescuing.{rescued-length}
 use Rattle.normaliser.proofs.Saving.{measured}

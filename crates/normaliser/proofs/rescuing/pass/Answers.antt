@@ -1,12 +1,8 @@
 -- `normaliser::rescuing::pass` meets its contract. The invariant is `Saving`: what is kept so far is counted, and in the output if it fits.
 -- Assumes nothing.
-use Prim.Native.Nat.{◌-◌}
 use native.Mathlib.Omega.{arith}
-use mathlib.Core.Path.{◌∙◌}
-use lib.ListN.{length}
-use borrow.Author.Rules.{rules}
 use Rattle.normaliser.proofs.Joining.{between-length}
-use Rattle.normaliser.proofs.Saving.{Saving, saving-start, counted, stray-ahead, past-stray, end-ahead, saved}
+use Rattle.normaliser.proofs.Saving.{saving-start, counted, stray-ahead, past-stray, end-ahead, saved}
 use Rattle.normaliser.proofs.rescuing.pass.Goals as goal
 
 pub loop-ending-init : goal.loop-ending-init

@@ -1,11 +1,8 @@
 -- `normaliser::rescuing::put_closes` meets its contract: so many of the Closes are put, and so many are left. Assumes nothing.
-use Prim.Native.Nat.{◌+◌, ◌-◌, ◌≤◌}
+use Prim.Native.Nat.{◌+◌, ◌-◌}
 use native.Mathlib.Omega.{arith}
-use mathlib.Core.Path.{◌≡◌, refl}
-use borrow.Author.Rules.{rules}
-use Rattle.form.specs.Rescue.{closes}
+use mathlib.Core.Path.{◌≡◌}
 use Rattle.laws.proofs.Rescuing.{closes-length}
-use Rattle.normaliser.specs.Stretches.{Appends}
 use Rattle.normaliser.proofs.Reached.{one_more, no-close, all-put}
 use Rattle.normaliser.proofs.rescuing.put_closes.Goals as goal
 

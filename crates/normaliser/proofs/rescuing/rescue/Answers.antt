@@ -1,5 +1,4 @@
 -- `normaliser::rescuing::rescue` meets its contract. Assumes nothing.
-use borrow.Author.Rules.{rules}
 use Rattle.normaliser.proofs.Saving.{rescue-long, rescue-lacks, rescue-fits}
 use Rattle.normaliser.proofs.rescuing.rescue.Goals as goal
 

@@ -1,11 +1,8 @@
 -- `normaliser::rescuing::stretch` meets its contract. The invariant is `Reaches`: all tokens so far are kept. Assumes nothing.
-use Prim.Native.Nat.{◌-◌}
 use native.Mathlib.Omega.{arith}
 use mathlib.Core.Path.{refl}
-use lib.ListN.{length}
-use borrow.Author.Rules.{rules}
 use Rattle.token.proofs.Walks.{read}
-use Rattle.normaliser.proofs.Reached.{Reaches, sets-out, over-open, over-close, over-other, at-stray, at-end, known}
+use Rattle.normaliser.proofs.Reached.{sets-out, over-open, over-close, over-other, at-stray, at-end, known}
 use Rattle.normaliser.proofs.rescuing.stretch.Goals as goal
 
 pub loop-next-init : goal.loop-next-init

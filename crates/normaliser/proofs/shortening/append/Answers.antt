@@ -1,5 +1,4 @@
 -- `normaliser::shortening::append` meets its contract. Assumes nothing.
-use borrow.Author.Rules.{rules}
 use native.Mathlib.Omega.{arith}
 use Rattle.normaliser.proofs.Respelling.{short-written, short-counted, short-otherwise}
 use borrow.Enum.Refused.{opened}

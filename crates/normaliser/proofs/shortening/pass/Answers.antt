@@ -1,16 +1,12 @@
 -- `normaliser::shortening::pass` meets its contract. The invariant is `Going`: what the tokens so far are spelled by is counted, and in the
 -- output if it fits. Assumes nothing.
-use borrow.Author.Rules.{rules}
-use Prim.Native.Nat.{◌-◌}
 use native.Mathlib.Omega.{arith}
-use lib.ListN.{length}
 use Rattle.laws.proofs.LittleEndian.{bytes-all}
 use Rattle.payload.proofs.LetElse.{got_of}
 use Rattle.token.proofs.LetElse.{token-else}
 use Rattle.token.specs.Tokens.{token_answer}
-use Rattle.normaliser.specs.Stretches.{short_style}
 use Rattle.normaliser.proofs.Steps.{token-spellable}
-use Rattle.normaliser.proofs.Passing.{Going, going_start, going_end, going-stopped, bounded}
+use Rattle.normaliser.proofs.Passing.{going_start, going_end, going-stopped, bounded}
 use Rattle.normaliser.proofs.Respelling.{short_on, next-refused}
 use borrow.Enum.Refused.{opened}
 use Rattle.normaliser.proofs.shortening.pass.Goals as goal

@@ -1,6 +1,5 @@
 -- `normaliser::shortening::refused` meets its contract. Assumes nothing.
 use Rattle.form.specs.Refusals.{refusal_at}
-use borrow.Author.Rules.{rules}
 use Rattle.normaliser.proofs.shortening.refused.Goals as goal
 
 pub returns-in-Eof : goal.returns-in-Eof

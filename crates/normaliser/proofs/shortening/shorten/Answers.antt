@@ -1,5 +1,4 @@
 -- `normaliser::shortening::shorten` meets its contract. Assumes nothing.
-use borrow.Author.Rules.{rules}
 use mathlib.Core.Path.{ap}
 use native.Mathlib.Omega.{arith}
 use Rattle.form.specs.Saves.{shortened}

@@ -1,5 +1,4 @@
 -- `normaliser::spelling::colour` meets its contract. Assumes nothing.
-use borrow.Author.Rules.{rules}
 use borrow.Author.Rules.{part_to_end}
 use Rattle.payload.specs.Answers.{rgb_answer}
 use Rattle.payload.proofs.LetElse.{got_of}

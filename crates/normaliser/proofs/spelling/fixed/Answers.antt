@@ -1,5 +1,4 @@
 -- `normaliser::spelling::fixed` meets its contract. Assumes nothing.
-use borrow.Author.Rules.{rules}
 use native.Mathlib.Omega.{arith}
 use lib.ListN.{length, drop, length-drop}
 use Rattle.laws.proofs.Places.{num-there, num-lt}

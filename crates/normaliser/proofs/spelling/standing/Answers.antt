@@ -1,9 +1,5 @@
 -- `normaliser::spelling::standing` meets its contract: the tokens so far stand as they are spelled. Assumes nothing.
-use borrow.Author.Rules.{rules}
-use Prim.Native.Nat.{◌-◌}
 use native.Mathlib.Omega.{arith}
-use lib.ListN.{length}
-use Rattle.normaliser.specs.Spellings.{Stand}
 use Rattle.normaliser.proofs.Spelled.{run_none, run-stands, run-float, run-lookup}
 use Rattle.normaliser.proofs.spelling.standing.Goals as goal
 

@@ -1,5 +1,4 @@
 -- `normaliser::spelling::string` meets its contract. Assumes nothing.
-use borrow.Author.Rules.{rules}
 use Rattle.payload.specs.Answers.{text_answer, text_of}
 use Rattle.payload.proofs.LetElse.{got_of, placed-found}
 use Rattle.normaliser.proofs.spelling.string.Goals as goal

@@ -1,5 +1,4 @@
 -- `normaliser::spelling::truth` meets its contract. Assumes nothing.
-use borrow.Author.Rules.{rules}
 use native.Mathlib.Omega.{arith}
 use Rattle.payload.specs.Answers.{u8_answer}
 use Rattle.payload.proofs.LetElse.{got_of}

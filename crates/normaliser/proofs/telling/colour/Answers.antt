@@ -1,6 +1,5 @@
 -- `normaliser::telling::colour` meets its contract. Assumes nothing.
 use mathlib.Core.Path.{refl}
-use borrow.Author.Rules.{rules}
 use borrow.Author.Rules.{part_to_end}
 use Rattle.payload.specs.Answers.{colour_of, rgb_answer}
 use Rattle.payload.proofs.LetElse.{got_of, colour-else}

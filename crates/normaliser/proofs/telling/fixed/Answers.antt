@@ -1,5 +1,4 @@
 -- `normaliser::telling::fixed` meets its contract. Assumes nothing.
-use borrow.Author.Rules.{rules}
 use Rattle.payload.specs.Answers.{text_of, text_answer}
 use Rattle.payload.proofs.LetElse.{got_of, placed-found, placed-refused}
 use Rattle.normaliser.proofs.telling.fixed.Goals as goal

@@ -1,6 +1,5 @@
 -- `normaliser::telling::pass_token` meets its contract. Assumes nothing.
 use mathlib.Core.Path.{sym, ◌∙◌}
-use borrow.Author.Rules.{rules}
 use Rattle.payload.specs.Answers.{id_answer}
 use Rattle.payload.proofs.LetElse.{got_of}
 use Rattle.normaliser.proofs.Spans.{unread, told-open, told-close, told-other, text-ends, colour-ends, fixed-ends}

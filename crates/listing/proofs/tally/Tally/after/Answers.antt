@@ -2,7 +2,6 @@
 use mathlib.Core.Path.{sym, ◌∙◌}
 use Rattle.token.specs.Tokens.{value_of}
 use Rattle.listing.proofs.Counting.{tally-bracket, tally-open, tally-stray, tally-close, tally-key, tally-equal, tally-plain, plain-kind}
-use borrow.Author.Rules.{rules}
 use borrow.Enum.Refused.{opened}
 use Rattle.listing.proofs.tally.Tally.after.Goals as goal
 
