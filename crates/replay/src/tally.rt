@@ -127,7 +127,7 @@ pub(crate) fn spell<D: Display + Drop>(value: D, out: &mut [u8]) -> usize
     let room = out.len();
     let mut rest = &mut out[..];
     let _ = write!(rest, "{value}");
-    room - rest.len()
+    room.saturating_sub(rest.len())
 }
 
 // Writes the digits to standard output. A write that fails, or that a signal interrupts, ends it.
