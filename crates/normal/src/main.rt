@@ -8,7 +8,6 @@ ghost use Rattle.form.specs.Listing.{error_line};
 ghost use Rattle.form.specs.Put.{Put};
 ghost use Rattle.normal.specs.Lines.{shown};
 
-use libc::{STDERR_FILENO, STDIN_FILENO};
 use normaliser::Normalised;
 use stdio::Input;
 use text::put_error;
@@ -23,8 +22,8 @@ fn put_wide(out: &mut [u8], p: usize) -> usize
 // The normal form of a save at the front of out, or the line of its first refusal; its length.
 fn form(bytes: &[u8], out: &mut [u8]) -> usize
     requires { (length bytes.now ≤ 8192) × (40960 ≤ length out.old) }
-    ensures value { result ≡ length (shown bytes.now) }
-    ensures out_after { out.new ≡ leaves (written (shown bytes.now)) out.old }
+    ensures len { result ≡ length (shown bytes.now) }
+    ensures output { out.new ≡ leaves (written (shown bytes.now)) out.old }
 {
     match normaliser::normalise(bytes, out) {
         Normalised::Written(n) => n,
@@ -38,27 +37,27 @@ fn form(bytes: &[u8], out: &mut [u8]) -> usize
 }
 
 // Writes the normal form of a save by way of out, or why it has none.
-fn show(bytes: &[u8], out: &mut [u8])
+fn show(rt: &HostRuntime, bytes: &[u8], out: &mut [u8])
     requires { (length bytes.now ≤ 8192) × (40960 ≤ length out.old) }
 {
     let n = form(bytes, out);
-    stdio::print(&out[..n]);
+    stdio::print(rt, &out[..n]);
 }
 
-fn main() {
+fn main(rt: HostRuntime) {
     let mut bytes = [0u8; 8193];
     // Room for every normal form: five bytes for each of the save.
     let mut out = [0u8; 40960];
-    match stdio::read_all(STDIN_FILENO, &mut bytes) {
+    match stdio::read_all(&mut rt.stdin(), &mut bytes) {
         Input::Got(n) => {
             if n <= 8192 {
-                show(&bytes[..n], &mut out);
+                show(&rt, &bytes[..n], &mut out);
             } else {
-                stdio::print(b"too long\n");
+                stdio::print(&rt, b"too long\n");
             }
         }
         Input::Failed => {
-            stdio::write_all(STDERR_FILENO, b"cannot read\n");
+            stdio::write_all(&mut rt.stderr(), b"cannot read\n");
         }
     }
 }

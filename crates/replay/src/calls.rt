@@ -5,7 +5,7 @@ use crate::{lists, outputs, sources};
 use capi::{counting, kinds, lexing, parts};
 
 // What a call returns; nothing for a number that no call has, or for what cannot be given to it.
-#[derive(Drop)]
+#[derive(Clone, Copy)]
 pub enum Asked {
     Code(u32),
     Nothing,

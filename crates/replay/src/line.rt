@@ -8,7 +8,7 @@ pub const NUMBERS: usize = 13;
 pub const LONGEST: usize = 1280;
 
 // How far it is read.
-#[derive(Drop)]
+#[derive(Clone, Copy)]
 pub struct Line {
     // Numbers that are read to their end.
     pub column: usize,

@@ -11,16 +11,24 @@ mod tally;
 
 use crate::line::{LONGEST, Line, NUMBERS};
 use crate::tally::Tally;
+use std::fs::File;
+use std::io::{Error, Read};
 
 // The line that is being read, and what came of those before it.
-#[derive(Drop)]
+#[derive(Clone, Copy)]
 pub struct State {
     pub line: Line,
     pub tally: Tally,
 }
 
 // The end of a line: its call is made.
-fn finish(line: Line, tally: Tally, numbers: &[u64; NUMBERS], bytes: &[u8; LONGEST]) -> Tally {
+fn finish(
+    rt: &HostRuntime,
+    line: Line,
+    tally: Tally,
+    numbers: &[u64; NUMBERS],
+    bytes: &[u8; LONGEST],
+) -> Tally {
     let t = tally.next_line();
     if line.comment {
         return t;
@@ -29,9 +37,9 @@ fn finish(line: Line, tally: Tally, numbers: &[u64; NUMBERS], bytes: &[u8; LONGE
         let call = numbers[0];
         let input = part(bytes, 0, line.input);
         let output = part(bytes, line.input, line.len);
-        return t.answer(call, calls::holds(numbers, input, output));
+        return t.answer(rt, call, calls::holds(numbers, input, output));
     }
-    t.answer(0, false)
+    t.answer(rt, 0, false)
 }
 
 // The bytes from one place to another; all where there is no such part.
@@ -45,13 +53,19 @@ fn part(s: &[u8], from: usize, to: usize) -> &[u8] {
 }
 
 // The next byte of the file.
-fn feed(s: State, b: u8, numbers: &mut [u64; NUMBERS], bytes: &mut [u8; LONGEST]) -> State {
+fn feed(
+    rt: &HostRuntime,
+    s: State,
+    b: u8,
+    numbers: &mut [u64; NUMBERS],
+    bytes: &mut [u8; LONGEST],
+) -> State {
     let line = s.line;
     let tally = s.tally;
     if b == b'\n' {
         return State {
             line: Line::new(),
-            tally: finish(line, tally, numbers, bytes),
+            tally: finish(rt, line, tally, numbers, bytes),
         };
     }
     State {
@@ -61,52 +75,80 @@ fn feed(s: State, b: u8, numbers: &mut [u64; NUMBERS], bytes: &mut [u8; LONGEST]
 }
 
 // A piece of the file; its last line may go on in the next.
-fn take(s: State, piece: &[u8], numbers: &mut [u64; NUMBERS], bytes: &mut [u8; LONGEST]) -> State {
+fn take(
+    rt: &HostRuntime,
+    s: State,
+    piece: &[u8],
+    numbers: &mut [u64; NUMBERS],
+    bytes: &mut [u8; LONGEST],
+) -> State {
     let mut now = s;
     let mut i: usize = 0;
     while i < piece.len() {
-        now = feed(now, piece[i], numbers, bytes);
+        now = feed(rt, now, piece[i], numbers, bytes);
         i += 1;
     }
     now
 }
 
-// The file to its end. The turns are counted down, from a number that no file uses up.
-fn replay(fd: i32, numbers: &mut [u64; NUMBERS], bytes: &mut [u8; LONGEST]) -> State {
+// The file to its end, or to the first read that fails. The turns are counted, up to a number that no file uses up.
+fn replay(
+    rt: &HostRuntime,
+    file: &mut File,
+    numbers: &mut [u64; NUMBERS],
+    bytes: &mut [u8; LONGEST],
+) -> State {
     let mut s = State {
         line: Line::new(),
         tally: Tally::new(),
     };
-    let mut turns = u64::MAX;
-    while turns > 0 {
-        let mut piece = io::buffer();
-        let got = libc::read(fd, &mut piece);
-        if got <= 0 {
+    for _ in 0..u64::MAX {
+        let mut piece = [0u8; 4096];
+        let Ok(n) = file.read(&mut piece) else {
+            return s;
+        };
+        if n == 0 {
             return s;
         }
-        let n = io::count(got, &piece);
-        s = take(s, &piece[..n], numbers, bytes);
-        turns -= 1;
+        s = take(rt, s, &piece[..n], numbers, bytes);
     }
     s
 }
 
-fn main() {
-    let fd = os::open_read(b"answers");
-    if fd < 0 {
-        os::fail(b"answers");
-        return;
-    }
+// Says on standard error why the file cannot be opened, in the system's words.
+fn fail(rt: &HostRuntime, error: Error) {
+    let mut text = [0u8; 256];
+    let len = tally::spell(error, &mut text);
+    let words = match std::str::from_utf8(&text[..len]) {
+        Ok(words) => words,
+        Err(_) => "",
+    };
+    // The number of the error stands behind them.
+    let words = match words.split_once(" (os error ") {
+        Some((words, _)) => words,
+        None => words,
+    };
+    let _ = eprintln!(rt; "answers: {words}");
+}
+
+fn main(rt: HostRuntime) {
+    let mut file = match File::open(&rt, "answers") {
+        Ok(file) => file,
+        Err(error) => {
+            fail(&rt, error);
+            return;
+        }
+    };
     let mut numbers = [0u64; NUMBERS];
     let mut bytes = [0u8; LONGEST];
-    let s = replay(fd, &mut numbers, &mut bytes);
-    libc::close(fd);
+    let s = replay(&rt, &mut file, &mut numbers, &mut bytes);
+    drop(file);
     let line = s.line;
     let tally = s.tally;
     if line.is_empty() {
-        tally.print();
+        tally.print(&rt);
         return;
     }
     // A line without an end.
-    tally.next_line().answer(0, false).print();
+    tally.next_line().answer(&rt, 0, false).print(&rt);
 }

@@ -1,8 +1,11 @@
 // What came of the lines so far.
-use libc::STDOUT_FILENO;
+ghost use Rattle.std.specs.Prelude.{◌≤◌, length};
+
+use std::fmt::Display;
+use std::io::Write;
 
 // The lines, the answers by groups of calls, and those that differ.
-#[derive(Drop)]
+#[derive(Clone, Copy)]
 pub struct Tally {
     pub lines: u64,
     pub kinds: u64,
@@ -53,15 +56,15 @@ impl Tally {
     }
 
     // The last line has an answer to a call, which holds or differs; a line that cannot be read has one to call 0.
-    pub(crate) fn answer(self, call: u64, holds: bool) -> Tally {
+    pub(crate) fn answer(self, rt: &HostRuntime, call: u64, holds: bool) -> Tally {
         let mut t = self.counted(call);
         t.answers = more(t.answers);
         if holds {
             return t;
         }
         t.different = more(t.different);
-        print(b"line ", t.lines);
-        stdio::print(b" differs\n");
+        print(rt, b"line ", t.lines);
+        stdio::print(rt, b" differs\n");
         t
     }
 
@@ -87,32 +90,58 @@ impl Tally {
         t
     }
 
-    pub(crate) fn print(self) {
-        print(b"kinds ", self.kinds);
-        print(b", parts ", self.parts);
-        print(b", ids ", self.ids);
-        print(b", tokens ", self.tokens);
-        print(b", payloads ", self.payloads);
-        print(b", skips ", self.skips);
-        print(b", writes ", self.writes);
-        print(b", steps ", self.steps);
-        print(b", sources ", self.sources);
-        print(b", finds ", self.finds);
-        print(b", contents ", self.contents);
-        print(b", positions ", self.positions);
-        print(b", rescues ", self.rescues);
-        print(b", unreadable ", self.unreadable);
-        print(b"\n", self.answers);
-        print(b" answers replayed, ", self.different);
-        stdio::print(b" different\n");
+    pub(crate) fn print(self, rt: &HostRuntime) {
+        print(rt, b"kinds ", self.kinds);
+        print(rt, b", parts ", self.parts);
+        print(rt, b", ids ", self.ids);
+        print(rt, b", tokens ", self.tokens);
+        print(rt, b", payloads ", self.payloads);
+        print(rt, b", skips ", self.skips);
+        print(rt, b", writes ", self.writes);
+        print(rt, b", steps ", self.steps);
+        print(rt, b", sources ", self.sources);
+        print(rt, b", finds ", self.finds);
+        print(rt, b", contents ", self.contents);
+        print(rt, b", positions ", self.positions);
+        print(rt, b", rescues ", self.rescues);
+        print(rt, b", unreadable ", self.unreadable);
+        print(rt, b"\n", self.answers);
+        print(rt, b" answers replayed, ", self.different);
+        stdio::print(rt, b" different\n");
     }
 }
 
 fn more(n: u64) -> u64 {
-    std::num::wrapping_add_u64(n, 1)
+    n.wrapping_add(1)
 }
 
-fn print(words: &[u8], n: u64) {
-    stdio::print(words);
-    io::print_decimal(STDOUT_FILENO, n);
+fn print(rt: &HostRuntime, words: &[u8], n: u64) {
+    stdio::print(rt, words);
+    print_decimal(rt, n);
+}
+
+// The text of a value at the front of out, as far as there is room; its length.
+pub(crate) fn spell<D: Display + Drop>(value: D, out: &mut [u8]) -> usize
+    ensures { result ≤ length out.new }
+{
+    let room = out.len();
+    let mut rest = &mut out[..];
+    let _ = write!(rest, "{value}");
+    room.saturating_sub(rest.len())
+}
+
+// Writes the digits to standard output. A write that fails, or that a signal interrupts, ends it.
+fn print_decimal(rt: &HostRuntime, n: u64) {
+    let mut text = [0u8; 20];
+    let len = spell(n, &mut text);
+    let mut written: usize = 0;
+    while written < len {
+        let Ok(more) = rt.stdout().write(&text[written..len]) else {
+            return;
+        };
+        if more == 0 {
+            return;
+        }
+        written += more;
+    }
 }

@@ -1,4 +1,4 @@
--- What was read lies IsWithin the buffer. No promise can say which bytes come.
+-- What was read lies within the buffer. No promise can say which bytes come.
 use Rattle.std.specs.Prelude.{ℕ, ◌≤◌}
 use Rattle.stdio.specs.declared.Input.{Input}
 use Rattle.stdio.specs.declared.Input.TheVariants.{Got, Failed}

@@ -2,9 +2,10 @@
 #![tactic(auto)]
 
 ghost use Rattle.std.specs.Prelude.{◌≤◌, length};
+ghost use Rattle.std.specs.Io.{ReadsAtMost, WritesAtMost};
 ghost use Rattle.stdio.specs.Within.{IsWithin};
 
-use libc::{EINTR, STDERR_FILENO, STDOUT_FILENO};
+use std::io::{Error, ErrorKind, Read, Result, Write};
 
 // How often an interrupted call is made at most: more often than a program lives for, so that the loop ends.
 const AGAIN: u64 = u64::MAX;
@@ -17,48 +18,48 @@ pub enum Input {
 }
 
 // What one read answers that no signal interrupts.
-fn read(fd: i32, buffer: &mut [u8]) -> isize {
-    let mut again: u64 = AGAIN;
-    while again > 0 {
-        let got = libc::read(fd, buffer);
-        if got >= 0 {
-            return got;
+fn read<R: Read>(from: &mut R, buffer: &mut [u8]) -> Result<usize>
+    ensures { ReadsAtMost result buffer.new }
+{
+    for _ in 0..AGAIN {
+        match from.read(buffer) {
+            Ok(got) => return Ok(got),
+            Err(error) => {
+                if error.kind() != ErrorKind::Interrupted {
+                    return Err(error);
+                }
+            }
         }
-        if os::errno() != EINTR {
-            return got;
-        }
-        again -= 1;
     }
-    -1
+    Err(Error::from(ErrorKind::Interrupted))
 }
 
 // What one write answers that no signal interrupts.
-fn write(fd: i32, bytes: &[u8]) -> isize {
-    let mut again: u64 = AGAIN;
-    while again > 0 {
-        let put = libc::write(fd, bytes);
-        if put >= 0 {
-            return put;
+fn write<W: Write>(to: &mut W, bytes: &[u8]) -> Result<usize>
+    ensures { WritesAtMost result bytes.now }
+{
+    for _ in 0..AGAIN {
+        match to.write(bytes) {
+            Ok(put) => return Ok(put),
+            Err(error) => {
+                if error.kind() != ErrorKind::Interrupted {
+                    return Err(error);
+                }
+            }
         }
-        if os::errno() != EINTR {
-            return put;
-        }
-        again -= 1;
     }
-    -1
+    Err(Error::from(ErrorKind::Interrupted))
 }
 
 // Reads until the buffer is full or the input ends, in as many pieces as it comes in.
-pub fn read_all(fd: i32, buffer: &mut [u8]) -> Input
+pub fn read_all<R: Read>(from: &mut R, buffer: &mut [u8]) -> Input
     ensures { IsWithin result (length buffer.new) }
 {
     let mut done: usize = 0;
     while done < buffer.len() {
-        let got = read(fd, &mut buffer[done..]);
-        if got < 0 {
+        let Ok(more) = read(from, &mut buffer[done..]) else {
             return Input::Failed;
-        }
-        let more = io::count(got, &buffer[done..]);
+        };
         if more == 0 {
             return Input::Got(done);
         }
@@ -68,14 +69,14 @@ pub fn read_all(fd: i32, buffer: &mut [u8]) -> Input
 }
 
 // Writes the bytes, in as many pieces as they are taken in; how many were written, which is fewer than all if a write fails.
-pub fn write_all(fd: i32, bytes: &[u8]) -> usize
+pub fn write_all<W: Write>(to: &mut W, bytes: &[u8]) -> usize
     ensures { result ≤ length bytes.now }
 {
     let mut written: usize = 0;
     while written < bytes.len() {
-        let rest = &bytes[written..];
-        let put = write(fd, rest);
-        let more = io::count(put, rest);
+        let Ok(more) = write(to, &bytes[written..]) else {
+            return written;
+        };
         if more == 0 {
             return written;
         }
@@ -85,12 +86,12 @@ pub fn write_all(fd: i32, bytes: &[u8]) -> usize
 }
 
 // Writes the bytes to standard output, and says so on standard error if it cannot; how many were written.
-pub fn print(bytes: &[u8]) -> usize
+pub fn print(rt: &HostRuntime, bytes: &[u8]) -> usize
     ensures { result ≤ length bytes.now }
 {
-    let printed = write_all(STDOUT_FILENO, bytes);
+    let printed = write_all(&mut rt.stdout(), bytes);
     if printed < bytes.len() {
-        write_all(STDERR_FILENO, b"cannot write\n");
+        write_all(&mut rt.stderr(), b"cannot write\n");
     }
     printed
 }
