@@ -7,17 +7,19 @@ use std::borrow::Cow;
 use std::env;
 use std::path::{Path, PathBuf};
 
-/// The directory of the programs; a relative one starts at the project's root.
-fn directory() -> PathBuf {
+/// Where a program is: in the directory that STIVLAHEIM_BIN names, of which a relative one starts at the project's root, or where `rt` leaves it.
+fn place(program: Program) -> PathBuf {
     let root = Path::new(env!("CARGO_MANIFEST_DIR")).ancestors().nth(2).expect("a directory in the project's oracle/");
-    root.join(env::var("STIVLAHEIM_BIN").unwrap_or_else(|_| "target/bin".to_string()))
+    let name = program.name();
+    let directory = env::var("STIVLAHEIM_BIN").unwrap_or_else(|_| format!("crates/{name}/out"));
+    root.join(directory).join(name)
 }
 
 pub fn programs(run: &mut Run, rng: &mut Rng, cases: usize) {
-    let directory = directory();
+    let places = Program::ALL.map(place);
     let both = |run: &mut Run, bytes: &[u8], pieces| {
-        for program in Program::ALL {
-            run.check(&Printed { program, directory: &directory, bytes: Cow::Borrowed(bytes), pieces });
+        for (program, place) in Program::ALL.into_iter().zip(&places) {
+            run.check(&Printed { program, place, bytes: Cow::Borrowed(bytes), pieces });
         }
     };
     for bytes in limits() {

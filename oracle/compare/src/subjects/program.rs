@@ -8,7 +8,7 @@ use crate::shrink::{cuts, without, zeroed};
 use protocol::{Spelling, code, hex};
 use std::borrow::Cow;
 use std::io::{ErrorKind, Write};
-use std::path::{Path, PathBuf};
+use std::path::Path;
 use std::process::{ChildStdin, Command, Output, Stdio};
 use std::thread;
 use std::time::Duration;
@@ -58,7 +58,8 @@ impl Program {
 
 pub struct Printed<'a> {
     pub program: Program,
-    pub directory: &'a Path,
+    /// Where it is.
+    pub place: &'a Path,
     pub bytes: Cow<'a, [u8]>,
     /// The input comes in so many pieces, with a pause after each but the last.
     pub pieces: usize,
@@ -70,18 +71,13 @@ const PAUSE: Duration = Duration::from_millis(2);
 
 impl<'a> Printed<'a> {
     fn with(&self, bytes: Vec<u8>) -> Printed<'a> {
-        Printed { program: self.program, directory: self.directory, bytes: Cow::Owned(bytes), pieces: self.pieces }
-    }
-
-    fn path(&self) -> PathBuf {
-        self.directory.join(self.program.name())
+        Printed { program: self.program, place: self.place, bytes: Cow::Owned(bytes), pieces: self.pieces }
     }
 
     fn run(&self) -> Output {
-        let path = self.path();
-        let mut command = Command::new(&path);
+        let mut command = Command::new(self.place);
         command.stdin(Stdio::piped()).stdout(Stdio::piped()).stderr(Stdio::piped());
-        let mut child = command.spawn().unwrap_or_else(|error| panic!("{}: {error}", path.display()));
+        let mut child = command.spawn().unwrap_or_else(|error| panic!("{}: {error}", self.place.display()));
         let stdin = child.stdin.take().expect("a pipe");
         thread::scope(|scope| {
             scope.spawn(|| self.feed(stdin));

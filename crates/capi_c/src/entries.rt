@@ -1,0 +1,42 @@
+// A table of contents: the entries of a save in a lent list of numbers, two for each; a search in it; and the file that keeps it.
+ghost use Rattle.std.specs.Prelude.{◌≡◌, ◌/◌, length};
+ghost use Rattle.form.specs.Writing.{outcome};
+ghost use Rattle.form.specs.Contents.{filling_outcome, search_numbers, write_numbers, read_file, fill as Contents·fill};
+ghost use Rattle.capi.specs.Replies.{returned, into};
+ghost use Rattle.capi.specs.Outputs.{outcome_reply, left_by};
+ghost use Rattle.capi.specs.Entries.{search_reply, list_left};
+
+// The entries of a save. The list is left alone where the answer list is too short.
+#[unsafe(no_mangle)]
+pub extern "C" fn stivlaheim_contents(bytes: &[u8], list: &mut [u32], answer: &mut [u64]) -> u32
+    ensures answer_after { returned result answer.new ≡ into answer.old (outcome_reply (filling_outcome (Contents·fill (length list.old / 2) bytes.now))) }
+    ensures list_after { list.new ≡ list_left answer.old (Contents·fill (length list.old / 2) bytes.now) list.old }
+{
+    capi::entries::stivlaheim_contents(bytes, list, answer)
+}
+
+// The entry that holds a position.
+#[unsafe(no_mangle)]
+pub extern "C" fn stivlaheim_contents_search(list: &[u32], position: u64, answer: &mut [u64]) -> u32
+    ensures { returned result answer.new ≡ into answer.old (search_reply (search_numbers list.now position)) }
+{
+    capi::entries::stivlaheim_contents_search(list, position, answer)
+}
+
+// The file of a list. The output is left alone where the answer list is too short.
+#[unsafe(no_mangle)]
+pub extern "C" fn stivlaheim_contents_write(list: &[u32], out: &mut [u8], answer: &mut [u64]) -> u32
+    ensures answer_after { returned result answer.new ≡ into answer.old (outcome_reply (outcome (write_numbers (length out.old) list.now))) }
+    ensures out_after { out.new ≡ left_by answer.old (write_numbers (length out.old) list.now) out.old }
+{
+    capi::entries::stivlaheim_contents_write(list, out, answer)
+}
+
+// The list of a file. The list is left alone where the answer list is too short.
+#[unsafe(no_mangle)]
+pub extern "C" fn stivlaheim_contents_read(file: &[u8], list: &mut [u32], answer: &mut [u64]) -> u32
+    ensures answer_after { returned result answer.new ≡ into answer.old (outcome_reply (filling_outcome (read_file (length list.old / 2) file.now))) }
+    ensures list_after { list.new ≡ list_left answer.old (read_file (length list.old / 2) file.now) list.old }
+{
+    capi::entries::stivlaheim_contents_read(file, list, answer)
+}
