@@ -1,8 +1,8 @@
 /*
  * Stivlaheim for C: the binary lexer, in libcapi.a (x86-64 Linux). The archive needs nothing else. C99 and C++ alike.
  *
- *     rt staticlib capi                                            proves the library and all below it, and makes target/staticlib/libcapi.a
- *     cc -Iinclude program.c target/staticlib/libcapi.a            compiles a program with it
+ *     oracle/archive                                         proves the library and all below it, and makes crates/capi_c/out/libcapi.a
+ *     cc -Iinclude program.c crates/capi_c/out/libcapi.a     compiles a program with it
  *
  * examples/tokens.c is such a program: it prints a save's tokens with their texts, writes its normal form and its shortest spelling, lists
  * its contents, and rescues what a clipped save still holds.
