@@ -1,5 +1,5 @@
 -- Lists of entries: a search in them and their file, an entry at a time. Assumes nothing.
-use Prim.Native.Nat.{ℕ, zero, suc, ◌+◌, ◌*◌, ◌<◌, ◌≤◌}
+use Prim.Native.Nat.{ℕ, zero, suc, ◌+◌, ◌-◌, ◌*◌, ◌<◌, ◌≤◌, ◌^◌}
 use native.Mathlib.Nat.{add-zero, zero-add, not-suc-le-zero, le_of_suc-le-suc}
 use native.Mathlib.Numerals.{add-one}
 use native.Mathlib.Omega.{arith}
@@ -7,9 +7,12 @@ use mathlib.Core.Path.{◌≡◌, refl, sym, ap, ◌∙◌}
 use mathlib.Core.Bool.{Bool, true, false}
 use mathlib.Core.List.{List, [], ◌∷◌, ◌++◌, map}
 use mathlib.Core.Logic.{⊎_elim}
+use mathlib.Core.WellFounded.InvImage
+use mathlib.Core.WellFounded.{WellFounded}
 use lib.Dec.{leb}
 use lib.ListN.{length, take, get_or, length-map}
 use lib.Seq.{sets, take-length}
+use lib.WfN.{lt-wf_rel}
 use borrow.Author.Tests.{leb-true, leb-false}
 use types.Run.{OneOf}
 use denote.Enum.Declared.{tag_of}
@@ -35,6 +38,22 @@ use Rattle.contents.proofs.Orders.{order_left, held_left, order-start, held_star
 use Rattle.contents.proofs.Judged.{judged-by, laid, output_by}
 use Rattle.contents.specs.contracts.file.Written as T
 
+-- ---- a loop that counts up
+
+-- what is left goes down, and comes to an end
+pub left-falls : (n : ℕ) {X : Type 0} (at : X → ℕ) → WellFounded (λ (x y : X). n - at x < n - at y)
+left-falls n {X = X} at = InvImage.wf (λ (x : X). n - at x) lt-wf_rel.wf
+
+pub less-left : (n i : ℕ) → i < n → n - (i + 1) < n - i
+less-left n i h = omega arith
+
+-- the place of an entry, and the count after it, are a usize
+pub place-fits : (n i : ℕ) → n * 8 < 2 ^ 63 → i < n → i * 8 < 2 ^ 64
+place-fits n i room h = omega arith
+
+pub next_fits : (n i : ℕ) → n < 2 ^ 64 → i < n → i + 1 < 2 ^ 64
+next_fits n i room h = omega arith
+
 -- what stands where there is no entry
 abbrev pub no-entry : Entry
 no-entry = record { start = 0; end = 0 }
@@ -59,6 +78,18 @@ unfolding passed
 passed-says s i [] = said-at-end s i
 passed-says s i (e ∷ ys) = rw (order-step s e (map entry_of ys) i, held-step s e (map entry_of ys) i) (passed-says (past_of s i e) (i + 1) ys)
 
+-- two answers are told apart
+one_answer : (r q : Searched) → searched_answer r ≡ searched_answer q → r ≡ q
+one_answer (Held i) (Held j) h = cc
+one_answer (Held i) Nowhere h = never (cc)
+one_answer (Held i) BadIndex h = never (cc)
+one_answer Nowhere (Held j) h = never (cc)
+one_answer Nowhere Nowhere h = refl
+one_answer Nowhere BadIndex h = never (cc)
+one_answer BadIndex (Held j) h = never (cc)
+one_answer BadIndex Nowhere h = never (cc)
+one_answer BadIndex BadIndex h = refl
+
 module _ (p : ℕ) (ys : List Entry) where
   -- after the first i entries
   abbrev pub state : ℕ → Seen
@@ -82,6 +113,9 @@ module _ (p : ℕ) (ys : List Entry) where
 
   pub says-answer : {r : Searched} → r ≡ answer_of (state (length ys)) → searched_answer r ≡ search (map entry_of ys) p
   says-answer {r} e = ap searched_answer (e ∙ ap (λ (l : List Entry). answer_of (passed (begun p) 0 l)) (take-length ys)) ∙ answers
+
+  pub is-answer : (r : Searched) → searched_answer r ≡ search (map entry_of ys) p → r ≡ answer
+  is-answer r e = one_answer r answer (e ∙ sym answers)
 
 -- ---- what is judged of n entries and of the room
 

@@ -161,6 +161,9 @@ module _ (s : List ℕ) (n : ℕ) (d : List Entry) where
     pub long : length l ≡ length d
     pub rest : sets (map entry_of l) i (entries_in (n - i) (drop (5 + 8 * i) s)) ≡ sets (map entry_of d) 0 (entries_in n (drop 5 s))
 
+  pub starts-at : Turn-at 0 d
+  starts-at = let z : n - 0 ≡ n = omega arith in record { long = refl; rest = rw z }
+
   pub goes-on-at : (i : ℕ) (l : List Entry) → i < n → Turn-at i l → Turn-at (i + 1) (set l i (entry_in s i))
   unfolding entries_in
   goes-on-at i l more t =
