@@ -1,8 +1,6 @@
-pub mod LentLists
 pub mod Counts
 pub mod Unique
-pub mod Ranges
-pub mod Writes
 pub mod KindOrder
-pub mod Eights
+pub mod Padded
+pub mod Mapped
 pub mod Called

@@ -1,24 +1,16 @@
 -- The token that a caller hands over, by its kind's number and the words of what it holds; none where they are no token's. And what a
 -- caller has after a write of it.
-use Rattle.std.specs.Prelude.{ℕ, List, [], ◌∷◌, length, get_or, leb, eqb, ℤ}
+use Rattle.std.specs.Prelude.{ℕ, List, [], ◌∷◌, length, get_or, leb, eqb, ℤ, Option as MayBe, Some, None}
 use Rattle.std.proofs.Math.Option.{Option, none, some}
 use Rattle.std.specs.Int.Signed.{mag}
 use Rattle.std.specs.Int.{w64}
 use Rattle.std.proofs.Common.{to_z}
 use Rattle.form.specs.Numbers.{pick}
 use Rattle.form.specs.Writing.{Output, outcome}
-use Rattle.payload.specs.declared.answers.Alpha.{Alpha}
-use Rattle.payload.specs.declared.answers.Alpha.TheVariants.{Absent, Given as GivenAlpha}
 use Rattle.token.specs.declared.Token.{Token}
 use Rattle.token.specs.declared.Token.TheVariants as T
 use Rattle.capi.specs.Replies.{SHORT_ANSWER, BAD_ARGUMENT, Returned, returned, into}
 use Rattle.capi.specs.Outputs.{outcome_reply, left_by}
-use Rattle.capi.specs.declared.offered.Offered.{Offered}
-use Rattle.capi.specs.declared.offered.Offered.TheVariants as G
-
-abbrev pub offered_of : Offered → Option Token
-offered_of (G.Token t) = some t
-offered_of G.Nothing = none
 
 -- where a word is at most m
 abbrev pub up_to : ℕ → ℕ → Option Token → Option Token
@@ -35,8 +27,8 @@ abbrev pub small_token : ℤ → Option Token
 small_token z = up_to 2147483647 (mag z) (some (T.I32 z))
 
 -- an alpha is looked at where it is said to be there
-abbrev pub alpha_token : (Alpha → Token) → ℕ → ℕ → Option Token
-alpha_token f has a = pick (eqb has 0) (some (f Absent)) (up_to 4294967295 a (some (f (GivenAlpha a))))
+abbrev pub alpha_token : (MayBe ℕ → Token) → ℕ → ℕ → Option Token
+alpha_token f has a = pick (eqb has 0) (some (f None)) (up_to 4294967295 a (some (f (Some a))))
 
 abbrev pub colour_token : ℕ → ℕ → ℕ → ℕ → ℕ → Option Token
 colour_token r g b has a =

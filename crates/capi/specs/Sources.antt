@@ -1,5 +1,5 @@
 -- The calls on a source, whose state a caller keeps as six words: what the caller has after each.
-use Rattle.std.specs.Prelude.{ℕ, List, [], ◌∷◌, ◌++◌, length, drop, get_or, leb, eqb}
+use Rattle.std.specs.Prelude.{ℕ, List, [], ◌∷◌, ◌++◌, length, drop, get_or, leb, eqb, Result, Ok, Err}
 use Rattle.form.specs.Numbers.{pick}
 use Rattle.form.specs.Spelling.{bit}
 use Rattle.form.specs.Calls as F
@@ -8,8 +8,8 @@ use Rattle.source.specs.declared.ParserSource.{ParserSource}
 use Rattle.source.specs.Window.{Drawn, drawn, halted, Draw, drawn_then, text_at, window_len}
 use Rattle.capi.specs.Replies.{ANSWERED, SHORT_ANSWER, BAD_ARGUMENT, Reply, Returned, returned, into}
 use Rattle.capi.specs.Code.{as_reply}
-use Rattle.capi.specs.declared.states.Asked.{Asked}
-use Rattle.capi.specs.declared.states.Asked.TheVariants.{State, Bad}
+use Rattle.capi.specs.declared.states.BadCall.{BadCall}
+use Rattle.capi.specs.declared.states.BadCall.TheVariants.{ShortAnswer, BadArgument}
 use Rattle.capi.specs.declared.source_replies.SourceReply as C
 
 -- ---- the state
@@ -31,17 +31,17 @@ state_of ws = record {
 abbrev pub with_state : ParserSource → List ℕ → List ℕ
 with_state s l = state_words s ++ drop 6 l
 
--- the state that is handed over, or the number to return: the answer list is tested first
-unfoldable pub asked : List ℕ → List ℕ → Asked
+-- the state that is handed over, or why there is none: the answer list is tested first
+unfoldable pub asked : List ℕ → List ℕ → Result ParserSource BadCall
 asked answer state =
     pick (leb 8 (length answer))
-    (pick (leb 6 (length state)) (pick (leb (get_or state 5 0) 1) (State (state_of state)) (Bad BAD_ARGUMENT)) (Bad BAD_ARGUMENT))
-    (Bad SHORT_ANSWER)
+    (pick (leb 6 (length state)) (pick (leb (get_or state 5 0) 1) (Ok (state_of state)) (Err BadArgument)) (Err BadArgument))
+    (Err ShortAnswer)
 
--- the number, where there is no state
-abbrev pub asked_number : Asked → ℕ
-asked_number (State s) = 0
-asked_number (Bad k) = k
+-- the number to return then
+abbrev pub bad_call_number : BadCall → ℕ
+bad_call_number ShortAnswer = SHORT_ANSWER
+bad_call_number BadArgument = BAD_ARGUMENT
 
 -- `from_slice` and `from_reader`: a new state, where there is room for it
 unfoldable pub begun : ParserSource → List ℕ → Returned
@@ -85,9 +85,9 @@ handed answer state x = caller_has (into answer x.reply) (with_state x.next stat
 
 -- any call, by the reply to what it answers; where no state is handed over nothing is changed
 module _ {A : Type 0} (reply : F.Call A → Reply) (call : Draw A) (answer state buffer : List ℕ) where
-  unfoldable pub called_from : Asked → Caller
-  called_from (State s) = handed answer state (source_reply_to reply (call s) buffer)
-  called_from (Bad k) = caller_has (returned k answer) state buffer
+  unfoldable pub called_from : Result ParserSource BadCall → Caller
+  called_from (Ok s) = handed answer state (source_reply_to reply (call s) buffer)
+  called_from (Err e) = caller_has (returned (bad_call_number e) answer) state buffer
 
   unfoldable pub called : Caller
   called = called_from (asked answer state)

@@ -1,11 +1,11 @@
 -- A value's words.
-use Rattle.std.specs.Prelude.{ℕ, Bool, List, [], ◌∷◌, ℤ}
+use Rattle.std.specs.Prelude.{ℕ, Bool, List, [], ◌∷◌, ℤ, Option, Some, None}
 use Rattle.std.specs.Int.{w64}
 use Rattle.std.proofs.Common.{of_z}
 use Rattle.form.specs.Spelling.{bit}
 use Rattle.form.specs.Values.{Value, kind}
-use Rattle.payload.specs.declared.answers.Alpha.{Alpha}
-use Rattle.payload.specs.declared.answers.Alpha.TheVariants.{Absent, Given}
+use Rattle.normaliser.specs.declared.rescuing.Report.{Report}
+use Rattle.payload.specs.declared.answers.Rgb.{Rgb}
 use Rattle.payload.specs.declared.answers.Text.{Text}
 use Rattle.token.specs.Tokens.{token_of, value_of}
 use Rattle.token.specs.declared.Token.{Token}
@@ -29,9 +29,16 @@ abbrev pub text_words : Text → List ℕ
 text_words t = t.start ∷ t.len ∷ []
 
 -- whether there is one, and its value
-abbrev pub alpha_words : Alpha → List ℕ
-alpha_words Absent = 0 ∷ 0 ∷ []
-alpha_words (Given a) = 1 ∷ a ∷ []
+abbrev pub alpha_words : Option ℕ → List ℕ
+alpha_words None = 0 ∷ 0 ∷ []
+alpha_words (Some a) = 1 ∷ a ∷ []
+
+abbrev pub rgb_words : Rgb → List ℕ
+rgb_words x = x.r ∷ x.g ∷ x.b ∷ alpha_words x.a
+
+-- of a rescue: the bytes cut, the strays, the Closes
+abbrev pub report_words : Report → List ℕ
+report_words r = r.cut ∷ r.strays ∷ r.closes ∷ []
 
 -- what a token holds
 abbrev pub held_words : Token → List ℕ
@@ -46,7 +53,7 @@ held_words (T.Quoted t) = text_words t
 held_words (T.Unquoted t) = text_words t
 held_words (T.F32 n) = number_words n
 held_words (T.F64 n) = number_words n
-held_words (T.Rgb x) = x.r ∷ x.g ∷ x.b ∷ alpha_words x.a
+held_words (T.Rgb x) = rgb_words x
 held_words (T.I64 z) = signed_words z
 held_words (T.Lookup n) = number_words n
 held_words (T.Id i) = number_words i

@@ -6,8 +6,7 @@ ghost use Rattle.capi.specs.Counting.{count_reply};
 
 use crate::replies;
 use crate::replies::Reply;
-use lexer::{LexerError, Refusal};
-use token::ReadToken;
+use payload::LexErrorAt;
 
 // How many tokens there are, with the cursor at the end; the first refusal where not all can be read.
 #[unsafe(no_mangle)]
@@ -23,13 +22,11 @@ fn count(bytes: &[u8]) -> Reply
     let mut at: usize = 0;
     let mut n: usize = 0;
     while at < bytes.len() {
-        let r = token::read_token(bytes, at);
-        let ReadToken::Got(next, _) = r else {
-            let kind = r.refusal();
-            return replies::refused(at, Refusal::Lexed(LexerError { position: at, kind }));
-        };
-        at = next;
+        match token::read_token(bytes, at) {
+            Ok((_, next)) => at = next,
+            Err(kind) => return replies::refused(at, LexErrorAt { at, kind }.into()),
+        }
         n += 1;
     }
-    replies::answered(at, n as u64, 0, 0)
+    replies::answered(at, n)
 }

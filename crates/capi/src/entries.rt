@@ -1,8 +1,10 @@
 // A table of contents: the entries of a save in a lent list of numbers, two for each; a search in it; and the file that keeps it.
+#![tactic(auto, unfolding(crate::specs::Replies::into))]
+
 ghost use Rattle.std.specs.Prelude.{◌≡◌, ◌/◌, length};
 ghost use Rattle.form.specs.Writing.{outcome};
 ghost use Rattle.form.specs.Contents.{filling_outcome, search_numbers, write_numbers, read_file, fill as Contents·fill};
-ghost use Rattle.contents.specs.Answers.{filled_outcome, searched_answer, written_outcome, opened_outcome};
+ghost use Rattle.contents.specs.Answers.{searched_answer};
 ghost use Rattle.capi.specs.Replies.{returned, into};
 ghost use Rattle.capi.specs.Code.{as_reply};
 ghost use Rattle.capi.specs.Outputs.{outcome_reply, left_by};
@@ -10,7 +12,7 @@ ghost use Rattle.capi.specs.Entries.{search_reply, list_left};
 
 use crate::replies::Reply;
 use crate::{codes, replies};
-use contents::{Filled, Opened, Searched, Written};
+use contents::BadIndex;
 
 // The entries of a save. The list is left alone where the answer list is too short.
 #[unsafe(no_mangle)]
@@ -21,20 +23,8 @@ pub extern "C" fn stivlaheim_contents(bytes: &[u8], list: &mut [u32], answer: &m
     if answer.len() < 8 {
         return codes::SHORT_ANSWER;
     }
-    let x = contents::fill(bytes, list);
-    replies::store(answer, filled_reply(x))
-}
-
-fn filled_reply(x: Filled) -> Reply
-    ensures { as_reply result ≡ outcome_reply (filled_outcome x) }
-{
-    match x {
-        Filled::Listed(n) => replies::answered(n, 0, 0, 0),
-        Filled::Eof(p, missing) => replies::coded(codes::EOF, 0, p as u64, missing as u64, 0),
-        Filled::InvalidRgb(p) => replies::coded(codes::INVALID_RGB, 0, p as u64, 0, 0),
-        Filled::ListFull(n) => replies::coded(codes::LIST_FULL, 0, n as u64, 0, 0),
-        Filled::TooLong(n) => replies::coded(codes::TOO_LONG, 0, n as u64, 0, 0),
-    }
+    let filled = contents::fill(bytes, list);
+    replies::store(answer, replies::outcome(filled))
 }
 
 // The entry that holds a position.
@@ -46,13 +36,13 @@ pub extern "C" fn stivlaheim_contents_search(list: &[u32], position: u64, answer
     replies::store(answer, searched_reply(x))
 }
 
-fn searched_reply(x: Searched) -> Reply
+fn searched_reply(x: Result<Option<usize>, BadIndex>) -> Reply
     ensures { as_reply result ≡ search_reply (searched_answer x) }
 {
     match x {
-        Searched::Held(i) => replies::answered(i, 0, 0, 0),
-        Searched::Nowhere => replies::absent(0),
-        Searched::BadIndex => replies::coded(codes::BAD_INDEX, 0, 0, 0, 0),
+        Ok(Some(i)) => replies::answered(i, ()),
+        Ok(None) => replies::absent(0),
+        Err(e) => replies::refused(0, e.into()),
     }
 }
 
@@ -65,19 +55,8 @@ pub extern "C" fn stivlaheim_contents_write(list: &[u32], out: &mut [u8], answer
     if answer.len() < 8 {
         return codes::SHORT_ANSWER;
     }
-    let x = contents::write(list, out);
-    replies::store(answer, written_reply(x))
-}
-
-fn written_reply(x: Written) -> Reply
-    ensures { as_reply result ≡ outcome_reply (written_outcome x) }
-{
-    match x {
-        Written::Written(n) => replies::answered(n, 0, 0, 0),
-        Written::BadIndex => replies::coded(codes::BAD_INDEX, 0, 0, 0, 0),
-        Written::TooLong(n) => replies::coded(codes::TOO_LONG, 0, n as u64, 0, 0),
-        Written::NoRoom(n) => replies::coded(codes::NO_ROOM, 0, n as u64, 0, 0),
-    }
+    let written = contents::write(list, out);
+    replies::store(answer, replies::outcome(written))
 }
 
 // The list of a file. The list is left alone where the answer list is too short.
@@ -89,16 +68,6 @@ pub extern "C" fn stivlaheim_contents_read(file: &[u8], list: &mut [u32], answer
     if answer.len() < 8 {
         return codes::SHORT_ANSWER;
     }
-    let x = contents::read(file, list);
-    replies::store(answer, opened_reply(x))
-}
-
-fn opened_reply(x: Opened) -> Reply
-    ensures { as_reply result ≡ outcome_reply (opened_outcome x) }
-{
-    match x {
-        Opened::Listed(n) => replies::answered(n, 0, 0, 0),
-        Opened::BadIndex => replies::coded(codes::BAD_INDEX, 0, 0, 0, 0),
-        Opened::ListFull(n) => replies::coded(codes::LIST_FULL, 0, n as u64, 0, 0),
-    }
+    let read = contents::read(file, list);
+    replies::store(answer, replies::outcome(read))
 }

@@ -25,7 +25,7 @@ pub extern "C" fn stivlaheim_position(
     ensures { returned result answer.new ≡ into answer.old (reply_of number_words (positions bytes.now (cursor_in offset at))) }
 {
     let c = Lexer { at, offset };
-    replies::store(answer, lexer_replies::of_position(c, c.position(bytes)))
+    replies::store(answer, lexer_replies::of_place(c, c.position(bytes)))
 }
 
 // An id: two bytes.
@@ -39,7 +39,7 @@ pub extern "C" fn stivlaheim_read_id(
     ensures { returned result answer.new ≡ into answer.old (reply_of number_words (reads (read_at (num 2)) bytes.now (cursor_in offset at))) }
 {
     let c = Lexer { at, offset };
-    replies::store(answer, lexer_replies::of_id(c, c.read_id(bytes)))
+    replies::store(answer, lexer_replies::of_read(c, c.read_id(bytes)))
 }
 
 // The next id; none at the end.
@@ -53,7 +53,7 @@ pub extern "C" fn stivlaheim_next_id(
     ensures { returned result answer.new ≡ into answer.old (reply_or_none number_words (nexts (read_at (num 2)) bytes.now (cursor_in offset at))) }
 {
     let c = Lexer { at, offset };
-    replies::store(answer, lexer_replies::of_next_id(c, c.next_id(bytes)))
+    replies::store(answer, lexer_replies::of_next(c, c.next_id(bytes)))
 }
 
 // The next id, with the cursor left where it is; none where it is refused.
@@ -67,7 +67,7 @@ pub extern "C" fn stivlaheim_peek_id(
     ensures { returned result answer.new ≡ into answer.old (reply_or_none number_words (peeks (read_at (num 2)) bytes.now (cursor_in offset at))) }
 {
     let c = Lexer { at, offset };
-    replies::store(answer, lexer_replies::of_peek_id(c, c.peek_id(bytes)))
+    replies::store(answer, lexer_replies::of_peek(c, c.peek_id(bytes)))
 }
 
 // A token: an id and its payload.
@@ -81,7 +81,7 @@ pub extern "C" fn stivlaheim_read_token(
     ensures { returned result answer.new ≡ into answer.old (reply_of token_words (reads token_at bytes.now (cursor_in offset at))) }
 {
     let c = Lexer { at, offset };
-    replies::store(answer, lexer_replies::of_token(c, c.read_token(bytes)))
+    replies::store(answer, lexer_replies::of_read(c, c.read_token(bytes)))
 }
 
 // The next token; none at the end.
@@ -95,7 +95,7 @@ pub extern "C" fn stivlaheim_next_token(
     ensures { returned result answer.new ≡ into answer.old (reply_or_none token_words (nexts token_at bytes.now (cursor_in offset at))) }
 {
     let c = Lexer { at, offset };
-    replies::store(answer, lexer_replies::of_next_token(c, c.next_token(bytes)))
+    replies::store(answer, lexer_replies::of_next(c, c.next_token(bytes)))
 }
 
 // The next token, with the cursor left where it is; none where it is refused.
@@ -109,7 +109,7 @@ pub extern "C" fn stivlaheim_peek_token(
     ensures { returned result answer.new ≡ into answer.old (reply_or_none token_words (peeks token_at bytes.now (cursor_in offset at))) }
 {
     let c = Lexer { at, offset };
-    replies::store(answer, lexer_replies::of_peek_token(c, c.peek_token(bytes)))
+    replies::store(answer, lexer_replies::of_peek(c, c.peek_token(bytes)))
 }
 
 // A string, after its id: the part that holds its text.
@@ -123,7 +123,7 @@ pub extern "C" fn stivlaheim_read_string(
     ensures { returned result answer.new ≡ into answer.old (reply_of text_words (reads string_at bytes.now (cursor_in offset at))) }
 {
     let c = Lexer { at, offset };
-    replies::store(answer, lexer_replies::of_string(c, c.read_string(bytes)))
+    replies::store(answer, lexer_replies::of_read(c, c.read_string(bytes)))
 }
 
 // A bool: one byte, true where it is not zero.
@@ -137,7 +137,7 @@ pub extern "C" fn stivlaheim_read_bool(
     ensures { returned result answer.new ≡ into answer.old (reply_of bool_words (reads bool_at bytes.now (cursor_in offset at))) }
 {
     let c = Lexer { at, offset };
-    replies::store(answer, lexer_replies::of_bool(c, c.read_bool(bytes)))
+    replies::store(answer, lexer_replies::of_read(c, c.read_bool(bytes)))
 }
 
 // A lookup of one byte.
@@ -151,7 +151,7 @@ pub extern "C" fn stivlaheim_read_lookup_u8(
     ensures { returned result answer.new ≡ into answer.old (reply_of number_words (reads (read_at (num 1)) bytes.now (cursor_in offset at))) }
 {
     let c = Lexer { at, offset };
-    replies::store(answer, lexer_replies::of_u8(c, c.read_lookup_u8(bytes)))
+    replies::store(answer, lexer_replies::of_read(c, c.read_lookup_u8(bytes)))
 }
 
 // A lookup of two bytes.
@@ -165,7 +165,7 @@ pub extern "C" fn stivlaheim_read_lookup_u16(
     ensures { returned result answer.new ≡ into answer.old (reply_of number_words (reads (read_at (num 2)) bytes.now (cursor_in offset at))) }
 {
     let c = Lexer { at, offset };
-    replies::store(answer, lexer_replies::of_u16(c, c.read_lookup_u16(bytes)))
+    replies::store(answer, lexer_replies::of_read(c, c.read_lookup_u16(bytes)))
 }
 
 // A lookup of three bytes.
@@ -179,7 +179,7 @@ pub extern "C" fn stivlaheim_read_lookup_u24(
     ensures { returned result answer.new ≡ into answer.old (reply_of number_words (reads (read_at (num 3)) bytes.now (cursor_in offset at))) }
 {
     let c = Lexer { at, offset };
-    replies::store(answer, lexer_replies::of_u32(c, c.read_lookup_u24(bytes)))
+    replies::store(answer, lexer_replies::of_read(c, c.read_lookup_u24(bytes)))
 }
 
 // A lookup of four bytes.
@@ -193,7 +193,7 @@ pub extern "C" fn stivlaheim_read_lookup_u32(
     ensures { returned result answer.new ≡ into answer.old (reply_of number_words (reads (read_at (num 4)) bytes.now (cursor_in offset at))) }
 {
     let c = Lexer { at, offset };
-    replies::store(answer, lexer_replies::of_u32(c, c.read_lookup_u32(bytes)))
+    replies::store(answer, lexer_replies::of_read(c, c.read_lookup_u32(bytes)))
 }
 
 // An unsigned number of four bytes.
@@ -207,7 +207,7 @@ pub extern "C" fn stivlaheim_read_u32(
     ensures { returned result answer.new ≡ into answer.old (reply_of number_words (reads (read_at (num 4)) bytes.now (cursor_in offset at))) }
 {
     let c = Lexer { at, offset };
-    replies::store(answer, lexer_replies::of_u32(c, c.read_u32(bytes)))
+    replies::store(answer, lexer_replies::of_read(c, c.read_u32(bytes)))
 }
 
 // An unsigned number of eight bytes.
@@ -221,7 +221,7 @@ pub extern "C" fn stivlaheim_read_u64(
     ensures { returned result answer.new ≡ into answer.old (reply_of number_words (reads (read_at (num 8)) bytes.now (cursor_in offset at))) }
 {
     let c = Lexer { at, offset };
-    replies::store(answer, lexer_replies::of_u64(c, c.read_u64(bytes)))
+    replies::store(answer, lexer_replies::of_read(c, c.read_u64(bytes)))
 }
 
 // A signed number of four bytes, as the bits of one of eight.
@@ -235,7 +235,7 @@ pub extern "C" fn stivlaheim_read_i32(
     ensures { returned result answer.new ≡ into answer.old (reply_of signed_words (reads i32_at bytes.now (cursor_in offset at))) }
 {
     let c = Lexer { at, offset };
-    replies::store(answer, lexer_replies::of_i32(c, c.read_i32(bytes)))
+    replies::store(answer, lexer_replies::of_read(c, c.read_i32(bytes)))
 }
 
 // A signed number of eight bytes, as its bits.
@@ -249,7 +249,7 @@ pub extern "C" fn stivlaheim_read_i64(
     ensures { returned result answer.new ≡ into answer.old (reply_of signed_words (reads i64_at bytes.now (cursor_in offset at))) }
 {
     let c = Lexer { at, offset };
-    replies::store(answer, lexer_replies::of_i64(c, c.read_i64(bytes)))
+    replies::store(answer, lexer_replies::of_read(c, c.read_i64(bytes)))
 }
 
 // The number that the four bytes of a float spell.
@@ -263,7 +263,7 @@ pub extern "C" fn stivlaheim_read_f32(
     ensures { returned result answer.new ≡ into answer.old (reply_of number_words (reads (read_at (num 4)) bytes.now (cursor_in offset at))) }
 {
     let c = Lexer { at, offset };
-    replies::store(answer, lexer_replies::of_u32(c, c.read_f32(bytes)))
+    replies::store(answer, lexer_replies::of_read(c, c.read_f32(bytes)))
 }
 
 // The number that the eight bytes of a float spell.
@@ -277,7 +277,7 @@ pub extern "C" fn stivlaheim_read_f64(
     ensures { returned result answer.new ≡ into answer.old (reply_of number_words (reads (read_at (num 8)) bytes.now (cursor_in offset at))) }
 {
     let c = Lexer { at, offset };
-    replies::store(answer, lexer_replies::of_u64(c, c.read_f64(bytes)))
+    replies::store(answer, lexer_replies::of_read(c, c.read_f64(bytes)))
 }
 
 // A colour, after its id.
@@ -291,7 +291,7 @@ pub extern "C" fn stivlaheim_read_rgb(
     ensures { returned result answer.new ≡ into answer.old (reply_of colour_words (reads (read_at rgb) bytes.now (cursor_in offset at))) }
 {
     let c = Lexer { at, offset };
-    replies::store(answer, lexer_replies::of_rgb(c, c.read_rgb(bytes)))
+    replies::store(answer, lexer_replies::of_read(c, c.read_rgb(bytes)))
 }
 
 // The part that is left.
@@ -305,7 +305,7 @@ pub extern "C" fn stivlaheim_remainder(
     ensures { returned result answer.new ≡ into answer.old (reply_of text_words (remainder_of bytes.now (cursor_in offset at))) }
 {
     let c = Lexer { at, offset };
-    replies::store(answer, lexer_replies::of_string(c, c.remainder(bytes)))
+    replies::store(answer, lexer_replies::of_read(c, c.remainder(bytes)))
 }
 
 // The part that is the next bytes, so many.
@@ -322,7 +322,7 @@ pub extern "C" fn stivlaheim_read_bytes(
     let c = Lexer { at, offset };
     replies::store(
         answer,
-        lexer_replies::of_string(c, c.read_bytes(bytes, count)),
+        lexer_replies::of_read(c, c.read_bytes(bytes, count)),
     )
 }
 
@@ -372,6 +372,6 @@ pub extern "C" fn stivlaheim_find_key(
     let c = Lexer { at, offset };
     replies::store(
         answer,
-        lexer_replies::of_find(c, c.find_key(bytes, LexemeId(id))),
+        lexer_replies::of_peek(c, c.find_key(bytes, LexemeId(id))),
     )
 }

@@ -2,7 +2,6 @@
 // eight words into a list that they are lent.
 #![tactic(auto)]
 
-mod bits;
 mod codes;
 pub mod counting;
 pub mod entries;
@@ -11,6 +10,7 @@ mod lexer_replies;
 pub mod lexing;
 mod offered;
 pub mod parts;
+mod refusals;
 mod replies;
 pub mod rescuing;
 pub mod source_reads;
@@ -18,5 +18,5 @@ mod source_replies;
 pub mod sources;
 mod states;
 pub mod stepping;
-mod token_replies;
+mod words;
 pub mod writing;

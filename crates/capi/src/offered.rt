@@ -1,117 +1,34 @@
 // A token that a caller hands over: its kind's number, and the words of what it holds.
-ghost use Rattle.std.specs.Prelude.{◌≡◌, ◌≤◌, length};
-ghost use Rattle.std.specs.Int.{w64};
-ghost use Rattle.std.proofs.Common.{to_z};
-ghost use Rattle.token.specs.declared.Token.TheVariants as T;
-ghost use Rattle.capi.specs.Offered.{offered_of, number_token, small_token, bool_token, colour_token, kind_token, offered_token};
+ghost use Rattle.std.specs.Prelude.{◌≡◌};
+ghost use Rattle.payload.specs.Answers.{option_as};
+ghost use Rattle.capi.specs.Offered.{bool_token, colour_token, kind_token, offered_token};
 
-use payload::{Alpha, Rgb, Text};
+use payload::{Rgb, Text};
 use token::Token;
 
-#[derive(Clone, Copy)]
-pub(crate) enum Offered {
-    Token(Token),
-    Nothing,
-}
-
-fn u32_token(x: u64) -> Offered
-    ensures { offered_of result ≡ number_token 4294967295 T.U32 x }
+fn truth(x: u64) -> Option<Token>
+    ensures { option_as (λ t. t) result ≡ bool_token x }
 {
-    if 0xffff_ffff < x {
-        return Offered::Nothing;
+    if x <= 1 {
+        Some(Token::Bool(x == 1))
+    } else {
+        None
     }
-    Offered::Token(Token::U32(x as u32))
-}
-
-fn f32_token(x: u64) -> Offered
-    ensures { offered_of result ≡ number_token 4294967295 T.F32 x }
-{
-    if 0xffff_ffff < x {
-        return Offered::Nothing;
-    }
-    Offered::Token(Token::F32(x as u32))
-}
-
-fn lookup_token(x: u64) -> Offered
-    ensures { offered_of result ≡ number_token 4294967295 T.Lookup x }
-{
-    if 0xffff_ffff < x {
-        return Offered::Nothing;
-    }
-    Offered::Token(Token::Lookup(x as u32))
-}
-
-fn id_token(x: u64) -> Offered
-    ensures { offered_of result ≡ number_token 65535 T.Id x }
-{
-    if 0xffff < x {
-        return Offered::Nothing;
-    }
-    Offered::Token(Token::Id(x as u16))
-}
-
-fn bool_token(x: u64) -> Offered
-    ensures { offered_of result ≡ bool_token x }
-{
-    if 1 < x {
-        return Offered::Nothing;
-    }
-    Offered::Token(Token::Bool(x == 1))
-}
-
-// Signed numbers: two's complement of 64 bits.
-fn i32_token(x: u64) -> Offered
-    ensures { offered_of result ≡ small_token (to_z w64 x) }
-{
-    if x < 0x8000_0000 {
-        let low = x as i32;
-        return Offered::Token(Token::I32(low));
-    }
-    if x < 0xffff_ffff_8000_0000 {
-        return Offered::Nothing;
-    }
-    let lacks = (u64::MAX - x) as i32;
-    let high = -1 - lacks;
-    Offered::Token(Token::I32(high))
 }
 
 // An alpha is looked at where it is said to be there.
-fn rgb_token(r: u64, g: u64, b: u64, has: u64, a: u64) -> Offered
-    ensures { offered_of result ≡ colour_token r g b has a }
+fn colour(r: u64, g: u64, b: u64, has: u64, a: u64) -> Option<Token>
+    ensures { option_as (λ t. t) result ≡ colour_token r g b has a }
 {
-    if 0xffff_ffff < r {
-        return Offered::Nothing;
-    }
-    if 0xffff_ffff < g {
-        return Offered::Nothing;
-    }
-    if 0xffff_ffff < b {
-        return Offered::Nothing;
-    }
-    if 1 < has {
-        return Offered::Nothing;
-    }
-    let red = r as u32;
-    let green = g as u32;
-    let blue = b as u32;
-    if has == 0 {
-        return Offered::Token(Token::Rgb(Rgb {
-            r: red,
-            g: green,
-            b: blue,
-            a: Alpha::Absent,
-        }));
-    }
-    if 0xffff_ffff < a {
-        return Offered::Nothing;
-    }
-    let alpha = a as u32;
-    Offered::Token(Token::Rgb(Rgb {
-        r: red,
-        g: green,
-        b: blue,
-        a: Alpha::Given(alpha),
-    }))
+    let r = u32::try_from(r).ok()?;
+    let g = u32::try_from(g).ok()?;
+    let b = u32::try_from(b).ok()?;
+    let a = match has {
+        0 => None,
+        1 => Some(u32::try_from(a).ok()?),
+        _ => return None,
+    };
+    Some(Token::Rgb(Rgb { r, g, b, a }))
 }
 
 fn text(start: u64, len: u64) -> Text
@@ -123,37 +40,36 @@ fn text(start: u64, len: u64) -> Text
     }
 }
 
-fn of_words(kind: u32, words: &[u64]) -> Offered
-    requires { 5 ≤ length words.now }
-    ensures { offered_of result ≡ kind_token kind words.now }
+// A signed number: two's complement of 64 bits.
+#[tactic(auto, unfolding(crate::specs::Offered::kind_token, crate::specs::Offered::kind_tokens))]
+fn of_words(kind: u32, words: [u64; 5]) -> Option<Token>
+    ensures { option_as (λ t. t) result ≡ kind_token kind words }
 {
-    let x = words[0];
+    let [x, y, z, has, a] = words;
     match kind {
-        0 => Offered::Token(Token::Open),
-        1 => Offered::Token(Token::Close),
-        2 => Offered::Token(Token::Equal),
-        3 => u32_token(x),
-        4 => Offered::Token(Token::U64(x)),
-        5 => i32_token(x),
-        6 => bool_token(x),
-        7 => Offered::Token(Token::Quoted(text(x, words[1]))),
-        8 => Offered::Token(Token::Unquoted(text(x, words[1]))),
-        9 => f32_token(x),
-        10 => Offered::Token(Token::F64(x)),
-        11 => rgb_token(x, words[1], words[2], words[3], words[4]),
-        12 => Offered::Token(Token::I64(payload::signed64(x))),
-        13 => lookup_token(x),
-        14 => id_token(x),
-        _ => Offered::Nothing,
+        0 => Some(Token::Open),
+        1 => Some(Token::Close),
+        2 => Some(Token::Equal),
+        3 => Some(Token::U32(u32::try_from(x).ok()?)),
+        4 => Some(Token::U64(x)),
+        5 => Some(Token::I32(i32::try_from(x.cast_signed()).ok()?)),
+        6 => truth(x),
+        7 => Some(Token::Quoted(text(x, y))),
+        8 => Some(Token::Unquoted(text(x, y))),
+        9 => Some(Token::F32(u32::try_from(x).ok()?)),
+        10 => Some(Token::F64(x)),
+        11 => colour(x, y, z, has, a),
+        12 => Some(Token::I64(x.cast_signed())),
+        13 => Some(Token::Lookup(u32::try_from(x).ok()?)),
+        14 => Some(Token::Id(u16::try_from(x).ok()?)),
+        _ => None,
     }
 }
 
 // Five words are asked for, whatever the kind.
-pub(crate) fn given(kind: u32, words: &[u64]) -> Offered
-    ensures { offered_of result ≡ offered_token kind words.now }
+#[tactic(auto, unfolding(crate::specs::Offered::offered_token, crate::specs::Offered::kind_token))]
+pub(crate) fn given(kind: u32, words: &[u64]) -> Option<Token>
+    ensures { option_as (λ t. t) result ≡ offered_token kind words.now }
 {
-    if words.len() < 5 {
-        return Offered::Nothing;
-    }
-    of_words(kind, words)
+    of_words(kind, *words.first_chunk()?)
 }

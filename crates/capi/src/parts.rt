@@ -8,10 +8,7 @@ ghost use Rattle.capi.specs.PartReplies.{split_reply, text_reply};
 
 use crate::replies;
 use crate::replies::Reply;
-use lexer::Refusal;
 use payload::Text;
-use split::Split;
-use token::TextAnswer;
 
 // The part that follows the first bytes, so many; none where there are fewer.
 #[unsafe(no_mangle)]
@@ -24,13 +21,12 @@ pub extern "C" fn stivlaheim_get_split(bytes: &[u8], count: usize, answer: &mut 
 fn split_reply(bytes: &[u8], count: usize) -> Reply
     ensures { as_reply result ≡ split_reply bytes.now (split_at bytes.now count) }
 {
-    let s = split::get_split(bytes, count);
-    match s {
-        Split::At(n) => {
-            let rest = split::split_rest(bytes, n);
-            replies::answered(n, n as u64, rest.len() as u64, 0)
+    match split::get_split(bytes, count) {
+        Some(start) => {
+            let len = split::split_rest(bytes, start).len();
+            replies::answered(start, Text { start, len })
         }
-        Split::Nothing => replies::absent(0),
+        None => replies::absent(0),
     }
 }
 
@@ -46,10 +42,8 @@ pub extern "C" fn stivlaheim_text(bytes: &[u8], start: usize, len: usize, answer
 fn text_reply(bytes: &[u8], t: Text) -> Reply
     ensures { as_reply result ≡ text_reply t (place_of bytes.now t) }
 {
-    let start = t.start;
-    let x = token::text(bytes, t);
-    match x {
-        TextAnswer::Within => replies::answered(start, start as u64, t.len as u64, 0),
-        TextAnswer::BadPlace(p) => replies::refused(start, Refusal::BadPlace(p)),
+    match token::text(bytes, t) {
+        Ok(()) => replies::answered(t.start, t),
+        Err(e) => replies::refused(t.start, e.into()),
     }
 }

@@ -1,4 +1,6 @@
 // What can be rescued of a clipped save, into a lent output.
+#![tactic(auto, unfolding(crate::specs::Replies::into))]
+
 ghost use Rattle.std.specs.Prelude.{◌≡◌, length};
 ghost use Rattle.form.specs.Writing.{outcome};
 ghost use Rattle.form.specs.Rescue.{rescue as Rescue·rescue, told};
@@ -9,7 +11,7 @@ ghost use Rattle.capi.specs.Outputs.{rescue_reply, left_by};
 
 use crate::replies::Reply;
 use crate::{codes, replies};
-use normaliser::Rescued;
+use normaliser::{RescueError, Rescued};
 
 // The rescued save. The output is left alone where the answer list is too short.
 #[unsafe(no_mangle)]
@@ -24,17 +26,11 @@ pub extern "C" fn stivlaheim_rescue(bytes: &[u8], out: &mut [u8], answer: &mut [
     replies::store(answer, rescued_reply(x))
 }
 
-fn rescued_reply(x: Rescued) -> Reply
+fn rescued_reply(x: Result<Rescued, RescueError>) -> Reply
     ensures { as_reply result ≡ rescue_reply (rescued_outcome x) (rescued_report x) }
 {
     match x {
-        Rescued::Written(n, report) => {
-            let cut = report.cut as u64;
-            let strays = report.strays as u64;
-            let closes = report.closes as u64;
-            replies::answered(n, cut, strays, closes)
-        }
-        Rescued::NoRoom(n) => replies::coded(codes::NO_ROOM, 0, n as u64, 0, 0),
-        Rescued::TooLong(n) => replies::coded(codes::TOO_LONG, 0, n as u64, 0, 0),
+        Ok(rescued) => replies::answered(rescued.written, rescued.report),
+        Err(e) => replies::refused(0, e.into()),
     }
 }

@@ -1,11 +1,12 @@
 // Reading the format through the window.
+#![tactic(auto, unfolding(crate::specs::Sources::called, crate::specs::Sources::called_from, crate::specs::Sources::asked))]
+
 ghost use Rattle.std.specs.Prelude.{◌≡◌};
 ghost use Rattle.source.specs.Binary.{id, peeked_id, string, colour};
 ghost use Rattle.capi.specs.Replies.{returned, reply_of, reply_or_none};
 ghost use Rattle.capi.specs.Words.{number_words, text_words, colour_words};
 ghost use Rattle.capi.specs.Sources.{caller_has, called};
 
-use crate::states::Asked;
 use crate::{source_replies, states};
 
 // A string: two bytes of length, and as many bytes of text.
@@ -19,12 +20,12 @@ pub extern "C" fn stivlaheim_source_read_bstr(
 ) -> u32
     ensures { caller_has (returned result answer.new) state.new buffer.new ≡ called (reply_of text_words) (string supply.now schedule.now) answer.old state.old buffer.old }
 {
-    let a = states::ask(state, answer);
-    let Asked::State(s) = a else {
-        return a.number();
+    let s = match states::ask(state, answer) {
+        Ok(s) => s,
+        Err(e) => return e.number(),
     };
-    let x = s.read_bstr(buffer, supply, schedule);
-    source_replies::hand_over(source_replies::of_taken(x), state, answer)
+    let text = s.read_bstr(buffer, supply, schedule);
+    source_replies::hand_over(source_replies::of_taken(text), state, answer)
 }
 
 // The next two bytes as an id.
@@ -38,12 +39,12 @@ pub extern "C" fn stivlaheim_source_read_lexeme_id(
 ) -> u32
     ensures { caller_has (returned result answer.new) state.new buffer.new ≡ called (reply_of number_words) (id supply.now schedule.now) answer.old state.old buffer.old }
 {
-    let a = states::ask(state, answer);
-    let Asked::State(s) = a else {
-        return a.number();
+    let s = match states::ask(state, answer) {
+        Ok(s) => s,
+        Err(e) => return e.number(),
     };
-    let x = s.read_lexeme_id(buffer, supply, schedule);
-    source_replies::hand_over(source_replies::of_id(x), state, answer)
+    let id = s.read_lexeme_id(buffer, supply, schedule);
+    source_replies::hand_over(source_replies::of_taken(id), state, answer)
 }
 
 // The next two bytes as an id, unread; none at the end.
@@ -57,12 +58,12 @@ pub extern "C" fn stivlaheim_source_peek_lexeme_id(
 ) -> u32
     ensures { caller_has (returned result answer.new) state.new buffer.new ≡ called (reply_or_none number_words) (peeked_id supply.now schedule.now) answer.old state.old buffer.old }
 {
-    let a = states::ask(state, answer);
-    let Asked::State(s) = a else {
-        return a.number();
+    let s = match states::ask(state, answer) {
+        Ok(s) => s,
+        Err(e) => return e.number(),
     };
     let x = s.peek_lexeme_id(buffer, supply, schedule);
-    source_replies::hand_over(source_replies::of_peeked_id(x), state, answer)
+    source_replies::hand_over(source_replies::of_tried(x), state, answer)
 }
 
 // A colour, after its id.
@@ -76,10 +77,10 @@ pub extern "C" fn stivlaheim_source_read_rgb(
 ) -> u32
     ensures { caller_has (returned result answer.new) state.new buffer.new ≡ called (reply_of colour_words) (colour supply.now schedule.now) answer.old state.old buffer.old }
 {
-    let a = states::ask(state, answer);
-    let Asked::State(s) = a else {
-        return a.number();
+    let s = match states::ask(state, answer) {
+        Ok(s) => s,
+        Err(e) => return e.number(),
     };
-    let x = s.read_rgb(buffer, supply, schedule);
-    source_replies::hand_over(source_replies::of_rgb(x), state, answer)
+    let colour = s.read_rgb(buffer, supply, schedule);
+    source_replies::hand_over(source_replies::of_taken(colour), state, answer)
 }

@@ -1,11 +1,12 @@
 // The window: each call takes its state from six words that the caller keeps, and puts back the state that it leaves.
+#![tactic(auto, unfolding(crate::specs::Sources::called, crate::specs::Sources::called_from, crate::specs::Sources::asked))]
+
 ghost use Rattle.std.specs.Prelude.{◌≡◌, length};
 ghost use Rattle.source.specs.Window.{new_slice, new_stream, ensured, refilled, advanced, window_len, taken, tried, peeked};
 ghost use Rattle.capi.specs.Replies.{returned, reply_of, reply_or_none};
 ghost use Rattle.capi.specs.Words.{no_words, number_words, bool_words, text_words};
 ghost use Rattle.capi.specs.Sources.{begun, caller_has, called, window_part};
 
-use crate::states::Asked;
 use crate::{source_replies, states};
 use source::ParserSource;
 
@@ -37,9 +38,9 @@ pub extern "C" fn stivlaheim_source_ensure_bytes(
 ) -> u32
     ensures { caller_has (returned result answer.new) state.new buffer.new ≡ called (reply_of no_words) (ensured supply.now schedule.now count) answer.old state.old buffer.old }
 {
-    let a = states::ask(state, answer);
-    let Asked::State(s) = a else {
-        return a.number();
+    let s = match states::ask(state, answer) {
+        Ok(s) => s,
+        Err(e) => return e.number(),
     };
     let x = s.ensure_bytes(count, buffer, supply, schedule);
     source_replies::hand_over(source_replies::of_ensured(x), state, answer)
@@ -56,12 +57,12 @@ pub extern "C" fn stivlaheim_source_refill(
 ) -> u32
     ensures { caller_has (returned result answer.new) state.new buffer.new ≡ called (reply_of number_words) (refilled supply.now schedule.now) answer.old state.old buffer.old }
 {
-    let a = states::ask(state, answer);
-    let Asked::State(s) = a else {
-        return a.number();
+    let s = match states::ask(state, answer) {
+        Ok(s) => s,
+        Err(e) => return e.number(),
     };
-    let x = s.refill(buffer, supply, schedule);
-    source_replies::hand_over(source_replies::of_refilled(x), state, answer)
+    let read = s.refill(buffer, supply, schedule);
+    source_replies::hand_over(source_replies::of_taken(read), state, answer)
 }
 
 // Reads so many of the unread bytes; none where there are fewer.
@@ -76,12 +77,12 @@ pub extern "C" fn stivlaheim_source_advance(
 ) -> u32
     ensures { caller_has (returned result answer.new) state.new buffer.now ≡ called (reply_of bool_words) (advanced supply.now schedule.now count) answer.old state.old buffer.now }
 {
-    let a = states::ask(state, answer);
-    let Asked::State(s) = a else {
-        return a.number();
+    let s = match states::ask(state, answer) {
+        Ok(s) => s,
+        Err(e) => return e.number(),
     };
-    let x = s.advance(count, buffer, supply, schedule);
-    source_replies::hand_over(source_replies::of_advanced(x), state, answer)
+    let moved = s.advance(count, buffer, supply, schedule);
+    source_replies::hand_over(source_replies::of_taken(moved), state, answer)
 }
 
 // How many bytes are unread.
@@ -95,9 +96,9 @@ pub extern "C" fn stivlaheim_source_window_len(
 ) -> u32
     ensures { caller_has (returned result answer.new) state.new buffer.now ≡ called (reply_of number_words) (window_len supply.now schedule.now) answer.old state.old buffer.now }
 {
-    let a = states::ask(state, answer);
-    let Asked::State(s) = a else {
-        return a.number();
+    let s = match states::ask(state, answer) {
+        Ok(s) => s,
+        Err(e) => return e.number(),
     };
     let x = s.window_len(buffer, supply, schedule);
     source_replies::hand_over(source_replies::of_window_len(s, x), state, answer)
@@ -114,9 +115,9 @@ pub extern "C" fn stivlaheim_source_window(
 ) -> u32
     ensures { caller_has (returned result answer.new) state.new buffer.now ≡ called (reply_of text_words) (window_part supply.now schedule.now) answer.old state.old buffer.now }
 {
-    let a = states::ask(state, answer);
-    let Asked::State(s) = a else {
-        return a.number();
+    let s = match states::ask(state, answer) {
+        Ok(s) => s,
+        Err(e) => return e.number(),
     };
     let x = s.window_len(buffer, supply, schedule);
     source_replies::hand_over(source_replies::of_window(s, x), state, answer)
@@ -134,12 +135,12 @@ pub extern "C" fn stivlaheim_source_take(
 ) -> u32
     ensures { caller_has (returned result answer.new) state.new buffer.new ≡ called (reply_of text_words) (taken supply.now schedule.now count) answer.old state.old buffer.old }
 {
-    let a = states::ask(state, answer);
-    let Asked::State(s) = a else {
-        return a.number();
+    let s = match states::ask(state, answer) {
+        Ok(s) => s,
+        Err(e) => return e.number(),
     };
-    let x = s.take(count, buffer, supply, schedule);
-    source_replies::hand_over(source_replies::of_taken(x), state, answer)
+    let taken = s.take(count, buffer, supply, schedule);
+    source_replies::hand_over(source_replies::of_taken(taken), state, answer)
 }
 
 // As `take`.
@@ -169,9 +170,9 @@ pub extern "C" fn stivlaheim_source_try_take(
 ) -> u32
     ensures { caller_has (returned result answer.new) state.new buffer.new ≡ called (reply_or_none text_words) (tried supply.now schedule.now count) answer.old state.old buffer.old }
 {
-    let a = states::ask(state, answer);
-    let Asked::State(s) = a else {
-        return a.number();
+    let s = match states::ask(state, answer) {
+        Ok(s) => s,
+        Err(e) => return e.number(),
     };
     let x = s.try_take(count, buffer, supply, schedule);
     source_replies::hand_over(source_replies::of_tried(x), state, answer)
@@ -204,9 +205,9 @@ pub extern "C" fn stivlaheim_source_peek(
 ) -> u32
     ensures { caller_has (returned result answer.new) state.new buffer.new ≡ called (reply_or_none text_words) (peeked supply.now schedule.now count) answer.old state.old buffer.old }
 {
-    let a = states::ask(state, answer);
-    let Asked::State(s) = a else {
-        return a.number();
+    let s = match states::ask(state, answer) {
+        Ok(s) => s,
+        Err(e) => return e.number(),
     };
     let x = s.peek(count, buffer, supply, schedule);
     source_replies::hand_over(source_replies::of_tried(x), state, answer)

@@ -1,73 +1,81 @@
 // A source's state, as six words that a caller keeps.
-ghost use Rattle.std.specs.Prelude.{◌≡◌, ◌≤◌, length};
+ghost use Rattle.std.specs.Prelude.{◌≡◌, ◌≤◌, length, OnOk};
 ghost use Rattle.capi.specs.Replies.{returned};
-ghost use Rattle.capi.specs.Sources.{state_of, with_state, asked, asked_number, begun};
+ghost use Rattle.capi.specs.Sources.{state_of, state_words, with_state, asked, bad_call_number, begun};
 
 use crate::codes;
 use source::ParserSource;
 
-// The state that is handed over, or the number to return.
-#[derive(Clone, Copy)]
-pub(crate) enum Asked {
-    State(ParserSource),
-    Bad(u32),
+// Why no call is made: the answer list is too short, or another argument is bad.
+#[derive(Clone, Copy, Debug, PartialEq, Eq)]
+pub(crate) enum BadCall {
+    ShortAnswer,
+    BadArgument,
 }
 
-impl Asked {
-    // The number, where there is no state.
+impl BadCall {
+    // Its number in include/stivlaheim.h.
     pub(crate) fn number(self) -> u32
-        ensures { result ≡ asked_number self }
+        ensures { result ≡ bad_call_number self }
     {
         match self {
-            Asked::State(_) => 0,
-            Asked::Bad(k) => k,
+            BadCall::ShortAnswer => codes::SHORT_ANSWER,
+            BadCall::BadArgument => codes::BAD_ARGUMENT,
         }
     }
 }
 
-fn of_words(words: &[u64]) -> ParserSource
-    requires { 6 ≤ length words.now }
+fn of_words(words: &[u64; 6]) -> ParserSource
     ensures { result ≡ state_of words.now }
 {
+    let [start, end, supply, schedule, position, streaming] = *words;
     ParserSource {
-        start: words[0] as usize,
-        end: words[1] as usize,
-        supply: words[2] as usize,
-        schedule: words[3] as usize,
-        position: words[4] as usize,
-        streaming: words[5] == 1,
+        start: start as usize,
+        end: end as usize,
+        supply: supply as usize,
+        schedule: schedule as usize,
+        position: position as usize,
+        streaming: streaming == 1,
     }
 }
 
-// The answer list is tested first.
-pub(crate) fn ask(state: &[u64], answer: &[u64]) -> Asked
-    ensures { result ≡ asked answer.now state.now }
+fn words_of(s: ParserSource) -> [u64; 6]
+    ensures { result ≡ state_words s }
+{
+    [
+        s.start as u64,
+        s.end as u64,
+        s.supply as u64,
+        s.schedule as u64,
+        s.position as u64,
+        u64::from(s.streaming),
+    ]
+}
+
+// The state that is handed over. The answer list is tested first.
+#[tactic(auto, unfolding(crate::specs::Sources::asked))]
+pub(crate) fn ask(state: &[u64], answer: &[u64]) -> Result<ParserSource, BadCall>
+    ensures state { result ≡ asked answer.now state.now }
+    ensures six { OnOk result (6 ≤ length state.now) }
 {
     if answer.len() < 8 {
-        return Asked::Bad(codes::SHORT_ANSWER);
+        return Err(BadCall::ShortAnswer);
     }
-    if state.len() < 6 {
-        return Asked::Bad(codes::BAD_ARGUMENT);
+    match state.first_chunk() {
+        Some(words) if words[5] <= 1 => Ok(of_words(words)),
+        _ => Err(BadCall::BadArgument),
     }
-    if 1 < state[5] {
-        return Asked::Bad(codes::BAD_ARGUMENT);
-    }
-    Asked::State(of_words(state))
 }
 
 pub(crate) fn put(state: &mut [u64], s: ParserSource)
     requires { 6 ≤ length state.old }
     ensures { state.new ≡ with_state s state.old }
 {
-    state[0] = s.start as u64;
-    state[1] = s.end as u64;
-    state[2] = s.supply as u64;
-    state[3] = s.schedule as u64;
-    state[4] = s.position as u64;
-    state[5] = payload::bits::of_bool(s.streaming);
+    state[..6].copy_from_slice(&words_of(s));
 }
 
 // A new state, where there is room for it.
+#[tactic(auto, unfolding(crate::specs::Sources::begun))]
 pub(crate) fn begin(state: &mut [u64], s: ParserSource) -> u32
     ensures { returned result state.new ≡ begun s state.old }
 {

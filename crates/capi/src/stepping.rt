@@ -8,7 +8,7 @@ ghost use Rattle.capi.specs.Steps.{step_reply, held_returned, held_after};
 
 use crate::replies::Reply;
 use crate::{codes, replies};
-use fast::Step;
+use lexeme::TokenKind;
 
 // The next token of a window: its length and its kind's number; none where it is not fast. Held bytes that are not eight are a bad argument.
 #[unsafe(no_mangle)]
@@ -23,54 +23,29 @@ pub extern "C" fn stivlaheim_next_token_fast(
     if answer.len() < 8 {
         return codes::SHORT_ANSWER;
     }
-    if held.len() != 8 {
+    let Ok(before) = <[u8; 8]>::try_from(&*held) else {
         return codes::BAD_ARGUMENT;
-    }
-    let x = step(window, held);
+    };
+    let x = step(window, before, held);
     replies::store(answer, step_reply(x))
 }
 
-fn step(window: &[u8], held: &mut [u8]) -> Step
+// The step, which leaves other bytes held.
+fn step(window: &[u8], before: [u8; 8], held: &mut [u8]) -> Option<(TokenKind, usize)>
     requires { length held.old ≡ 8 }
-    ensures result_value { step_of result ≡ (fast_step window.now held.old).step }
-    ensures held { held.new ≡ (fast_step window.now held.old).held }
+    ensures step { step_of result ≡ (fast_step window.now before).step }
+    ensures held { held.new ≡ (fast_step window.now before).held }
 {
-    let before = eight(held);
     let x = fast::next_token_fast(window, before);
-    let after = x.held;
-    put_eight(held, after);
+    held.copy_from_slice(&x.held);
     x.step
 }
 
-// The held bytes, one by one.
-fn eight(held: &[u8]) -> [u8; 8]
-    requires { length held.now ≡ 8 }
-    ensures { result ≡ held.now }
-{
-    [
-        held[0], held[1], held[2], held[3], held[4], held[5], held[6], held[7],
-    ]
-}
-
-fn put_eight(held: &mut [u8], after: [u8; 8])
-    requires { length held.old ≡ 8 }
-    ensures { held.new ≡ after }
-{
-    held[0] = after[0];
-    held[1] = after[1];
-    held[2] = after[2];
-    held[3] = after[3];
-    held[4] = after[4];
-    held[5] = after[5];
-    held[6] = after[6];
-    held[7] = after[7];
-}
-
-fn step_reply(x: Step) -> Reply
+fn step_reply(x: Option<(TokenKind, usize)>) -> Reply
     ensures { as_reply result ≡ step_reply (step_of x) }
 {
     match x {
-        Step::Fast(k, n) => replies::answered(n, k.number() as u64, 0, 0),
-        Step::Slow => replies::absent(0),
+        Some((kind, len)) => replies::answered(len, kind),
+        None => replies::absent(0),
     }
 }

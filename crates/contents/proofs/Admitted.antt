@@ -1,52 +1,27 @@
 -- The bytes that are to be read: what is said of them, and their entries. Assumes nothing.
-use Prim.Native.Nat.{ℕ, zero, suc, ◌+◌, ◌-◌, ◌*◌, ◌/◌, ◌%◌, ◌≤◌, ◌<◌}
-use native.Mathlib.Numerals.{sub-one}
-use native.Mathlib.Nat.{not-suc-le-zero}
+use Prim.Native.Nat.{ℕ, ◌-◌, ◌/◌, ◌%◌, ◌≤◌, ◌<◌}
 use native.Mathlib.Omega.{arith}
-use mathlib.Core.Path.{◌≡◌, refl, sym, ap, ◌∙◌}
+use mathlib.Core.Path.{◌≡◌, refl, ap, ◌∙◌}
 use mathlib.Core.Bool.{Bool, true, false, ◌&&◌}
-use mathlib.Core.List.{List, [], ◌∷◌}
-use mathlib.Core.Logic.{⊎_elim}
+use mathlib.Core.List.{List, map}
 use lib.ListN.{length, take, drop, get_or}
 use lib.Dec.{leb, eqb}
-use lib.Seq.{drop-drop}
+use lib.Seq.{take_all}
 use borrow.Author.Tests.{leb-true, le-leb, lt-leb, eq-eqb}
-use types.Run.{OneOf}
-use denote.Enum.Declared.{tag_of}
 use Rattle.form.specs.Numbers.{pick}
 use Rattle.form.specs.Refusals as R
-use Rattle.form.specs.Writing.{over, wrote, declined}
-use Rattle.form.specs.Contents.{in_order, Filling, filled, unfilled, filling_outcome, numbers_left, room_for, big_number, VERSION, entries_in, entries_of, is_file, read_file}
+use Rattle.form.specs.Refusals.{Refusal}
+use Rattle.form.specs.Writing.{Outcome, wrote, declined}
+use Rattle.form.specs.Contents as F
+use Rattle.form.specs.Contents.{in_order, Filling, filled, unfilled, filling_outcome, numbers_left, entries_left, room_for, big_number, VERSION, entries_of, is_file, read_file}
 use Rattle.laws.proofs.Never.{never}
-use Rattle.laws.proofs.Elsewhere.{both}
-use Rattle.laws.proofs.FileBack.{file-is, length-entries-in}
-use Rattle.contents.specs.declared.searching.Seen.{Seen}
-use Rattle.contents.specs.declared.file.Opened.{Opened}
-use Rattle.contents.specs.declared.file.Opened.TheVariants as O
-use Rattle.contents.specs.Answers.{opened_outcome, Fills}
-use Rattle.contents.specs.Searches.{past_of}
-use Rattle.contents.specs.Files.{is_headed, entry_in, numbers_in}
-use Rattle.contents.specs.contracts.file.Opened as U
-use Rattle.contents.proofs.BigBytes.{numbers-flat}
-use Rattle.contents.proofs.Orders.{order_left, order-step}
+use Rattle.contents.specs.declared.Entry.{Entry}
+use Rattle.contents.specs.Answers.{entry_of, Fills, FillsEntries}
+use Rattle.contents.specs.Files.{is_headed}
+use Rattle.contents.specs.Slots.{pairs, pair_put, record_put, put_all, left_in, Gets}
+use Rattle.contents.proofs.Kept.{length-pairs, pairs-front, records-front, length-records}
 
--- an entry more, of those that are left after i others
-pub entry-step : (x : Seen) (s : List ℕ) (i left : ℕ) → 0 < left
-    → order_left (past_of x i (entry_in s i)) (i + 1) (entries_in (left - 1) (drop (5 + 8 * (i + 1)) s))
-    ≡ order_left x i (entries_in left (drop (5 + 8 * i) s))
-unfolding entries_in
-entry-step x s i zero h = absurd (not-suc-le-zero h)
-entry-step x s i (suc n) h =
-    let e : 5 + 8 * (i + 1) ≡ 5 + 8 * i + 8 = omega arith in
-    let f : 9 + 8 * i ≡ 5 + 8 * i + 4 = omega arith in
-    rw (drop-drop 4 (5 + 8 * i) s, drop-drop 8 (5 + 8 * i) s, e, ← f, sub-one)
-    (sym (order-step x (entry_in s i) (entries_in n (drop (5 + 8 * i + 8) s)) i))
-
--- none is left
-pub entries_none : (left : ℕ) (s : List ℕ) → left ≤ 0 → entries_in left s ≡ []
-unfolding entries_in
-entries_none zero s h = refl
-entries_none (suc n) s h = absurd (not-suc-le-zero h)
+-- ---- a file
 
 module _ (s : List ℕ) where
   -- of five bytes and more, and of the version
@@ -55,70 +30,86 @@ module _ (s : List ℕ) where
   unfolding is_headed
   headed-by h v = rw (le-leb 5 (length s) h, eq-eqb (get_or s 0 0) VERSION v)
 
-  pub headed-long : is_headed s ≡ true → 5 ≤ length s
-  unfolding is_headed
-  headed-long h = leb-true 5 (length s) (both _ _ (both _ _ (both _ _ h).0).0).0
-
-  -- how many entries
-  abbrev count : ℕ
-  count = (length s - 5) / 8
-
   module _ (room : ℕ) where
     pub not-headed : is_headed s ≡ false → declined R.BadIndex ≡ filling_outcome (read_file room s)
     unfolding is_headed is_file read_file filling_outcome
     not-headed h = rw h
 
     module _ (h : is_headed s ≡ true) where
-      pub not-ordered : in_order (entries_in count (drop 5 s)) ≡ false → declined R.BadIndex ≡ filling_outcome (read_file room s)
-      unfolding is_headed is_file entries_of read_file filling_outcome
+      pub not-ordered : in_order (entries_of s) ≡ false → declined R.BadIndex ≡ filling_outcome (read_file room s)
+      unfolding is_headed is_file read_file filling_outcome
       not-ordered o = rw (h, o)
 
-      module _ (o : in_order (entries_in count (drop 5 s)) ≡ true) where
-        pub too_many : room < count → declined (R.ListFull count) ≡ filling_outcome (read_file room s)
-        unfolding is_headed is_file entries_of read_file room_for filling_outcome
-        too_many m = rw (h, o, length-entries-in, lt-leb count room m)
+      module _ (o : in_order (entries_of s) ≡ true) {n : ℕ} (counted : n ≡ length (entries_of s)) where
+        pub too_many : room < n → declined (R.ListFull n) ≡ filling_outcome (read_file room s)
+        unfolding is_headed is_file read_file room_for filling_outcome
+        too_many m = rw (h, o, lt-leb (length (entries_of s)) room (omega arith), counted)
 
-        pub all_listed : count ≤ room → wrote count ≡ filling_outcome (read_file room s)
-        unfolding is_headed is_file entries_of read_file room_for filling_outcome
-        all_listed m = rw (h, o, length-entries-in, le-leb count room m) (sym (ap wrote (length-entries-in count (drop 5 s))))
+        pub all_listed : n ≤ room → wrote n ≡ filling_outcome (read_file room s)
+        unfolding is_headed is_file read_file room_for filling_outcome
+        all_listed m = rw (h, o, le-leb (length (entries_of s)) room (omega arith), counted)
 
--- a refusal leaves the list as it is
-not_listed : (r : Opened) (x : Filling) (d : List ℕ) → OneOf (1 ∷ 2 ∷ []) (tag_of U.the_type r) → opened_outcome r ≡ filling_outcome x
-    → numbers_left x d ≡ d
-unfolding filling_outcome numbers_left
-not_listed r (unfilled why) d q e = refl
-not_listed (O.Listed n) (filled l) d q e = absurd (⊎_elim (λ h. omega arith) (λ h. omega arith) q)
-not_listed O.BadIndex (filled l) d q e = never (cc)
-not_listed (O.ListFull n) (filled l) d q e = never (cc)
+  -- what is read is entries for which there is room
+  pub read-within : (room : ℕ) (l : List F.Entry) → read_file room s ≡ filled l → (l ≡ entries_of s) × (length l ≤ room)
+  unfolding read_file room_for
+  read-within room l h = go (is_file s) (leb (length (entries_of s)) room) refl h
+    where
+      go : (x y : Bool) → leb (length (entries_of s)) room ≡ y
+          → pick x (pick y (filled (entries_of s)) (unfilled (R.ListFull (length (entries_of s))))) (unfilled R.BadIndex) ≡ filled l
+          → (l ≡ entries_of s) × (length l ≤ room)
+      go true true k h = let z : l ≡ entries_of s = cc in (z, omega (arith, leb-true (length (entries_of s)) room k, ap length z))
+      go true false k h = never (cc)
+      go false y k h = never (cc)
 
--- what is read is n entries
-pub listed : (s : List ℕ) (room : ℕ) {n : ℕ} → wrote n ≡ filling_outcome (read_file room s)
-    → (5 + 8 * n ≡ length s) × (n ≤ room) × (read_file room s ≡ filled (entries_in n (drop 5 s)))
-unfolding entries_of read_file room_for filling_outcome
-listed s room {n} counted = go (is_file s) refl (leb (length (entries_of s)) room) refl refl
-  where
-    go : (x : Bool) → is_file s ≡ x → (y : Bool) → leb (length (entries_of s)) room ≡ y
-        → read_file room s ≡ pick x (pick y (filled (entries_of s)) (unfilled (R.ListFull (length (entries_of s))))) (unfilled R.BadIndex)
-        → (5 + 8 * n ≡ length s) × (n ≤ room) × (read_file room s ≡ filled (entries_in n (drop 5 s)))
-    go true h true k w =
-        let f = file-is s h in
-        let z : n ≡ length (entries_of s) = cc counted in
-        let l : n ≡ count s = z ∙ length-entries-in (count s) (drop 5 s) in
-        (omega (arith, f.long, f.eights), omega (arith, leb-true (length (entries_of s)) room k), rw l w)
-    go true h false k w = never (cc counted)
-    go false h y k w = never (cc counted)
+-- ---- what is said, and what a list holds then
 
-module _ (s d : List ℕ) (r : Opened) (e : opened_outcome r ≡ filling_outcome (read_file (length d / 2) s)) where
-  pub opened-refused : OneOf (1 ∷ 2 ∷ []) (tag_of U.the_type r) → Fills (read_file (length d / 2) s) (opened_outcome r) d d
-  opened-refused q = record { answer = e; list = sym (not_listed r (read_file (length d / 2) s) d q e) }
+module _ {x : Filling} where
+  -- so many entries are counted
+  pub filled-with : {n : ℕ} → wrote n ≡ filling_outcome x → (l : List F.Entry) × (x ≡ filled l) × (n ≡ length l)
+  unfolding filling_outcome
+  filled-with {n} h = go x refl h
+    where
+      go : (y : Filling) → x ≡ y → wrote n ≡ filling_outcome y → (l : List F.Entry) × (x ≡ filled l) × (n ≡ length l)
+      go (filled l) z h = (l, z, cc)
+      go (unfilled r) z h = never (cc)
 
-  module _ {n : ℕ} (q : r ≡ O.Listed n) where
-    counted : wrote n ≡ filling_outcome (read_file (length d / 2) s)
-    counted = sym (ap opened_outcome q) ∙ e
+  module _ {A : Type 0} (put : ℕ → F.Entry → A → A) {d : A} where
+    pub stays : {why : Refusal} → declined why ≡ filling_outcome x → Gets put x (declined why) d d
+    unfolding filling_outcome left_in
+    stays {why} h = go x refl
+      where
+        go : (y : Filling) → x ≡ y → Gets put x (declined why) d d
+        go (filled l) z = never (cc (h ∙ ap filling_outcome z))
+        go (unfilled r) z = record { answer = h; list = rw z }
 
-    pub opened-fits : (5 + 4 * (2 * n) ≤ length s) × (2 * n ≤ length d)
-    opened-fits = omega (arith, listed s (length d / 2) counted)
+    module _ {l : List F.Entry} (z : x ≡ filled l) {n : ℕ} (k : n ≡ length l) {d' : A} where
+      pub comes : d' ≡ put_all put 0 l d → Gets put x (wrote n) d d'
+      unfolding filling_outcome left_in
+      comes e = rw z (record { answer = ap wrote k; list = e })
 
-    pub opened-listed : {d' : List ℕ} → d' ≡ over (numbers_in (2 * n) (drop 5 s)) d → Fills (read_file (length d / 2) s) (wrote n) d d'
-    unfolding numbers_left
-    opened-listed u = record { answer = counted; list = u ∙ rw ((listed s (length d / 2) counted).2, numbers-flat n (drop 5 s)) }
+      pub copied : d' ≡ put_all put 0 (take n l) d → Gets put x (wrote n) d d'
+      copied e = let all : take n l ≡ l = take_all n l (omega arith) in comes (e ∙ rw all)
+
+-- into a list with room
+module _ (f : ℕ → Filling) (within : (room : ℕ) (l : List F.Entry) → f room ≡ filled l → length l ≤ room) {a : Outcome} where
+  pub as-numbers : (d : List ℕ) {d' : List ℕ} → Gets pair_put (f (length (pairs d))) a d d' → Fills (f (length d / 2)) a d d'
+  unfolding left_in numbers_left
+  as-numbers d {d'} g = go (rw length-pairs at g)
+    where
+      go : Gets pair_put (f (length d / 2)) a d d' → Fills (f (length d / 2)) a d d'
+      go g = record { answer = g.answer; list = g.list ∙ to (f (length d / 2)) refl }
+        where
+          to : (y : Filling) → f (length d / 2) ≡ y → left_in pair_put y d ≡ numbers_left y d
+          to (filled l) z = pairs-front l d (within (length d / 2) l z)
+          to (unfilled r) z = refl
+
+  pub as-records : (d : List Entry) {d' : List Entry} → Gets record_put (f (length (map entry_of d))) a d d' → FillsEntries (f (length d)) a d d'
+  unfolding left_in entries_left
+  as-records d {d'} g = go (rw length-records at g)
+    where
+      go : Gets record_put (f (length d)) a d d' → FillsEntries (f (length d)) a d d'
+      go g = record { answer = g.answer; list = ap (map entry_of) g.list ∙ to (f (length d)) refl }
+        where
+          to : (y : Filling) → f (length d) ≡ y → map entry_of (left_in record_put y d) ≡ entries_left y (map entry_of d)
+          to (filled l) z = records-front l d (within (length d) l z)
+          to (unfilled r) z = refl

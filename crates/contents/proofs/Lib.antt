@@ -1,9 +1,7 @@
 pub mod Orders
-pub mod Numbering
 pub mod BigBytes
+pub mod Kept
 pub mod Judged
 pub mod Admitted
-pub mod Stepped
-pub mod Stored
-pub mod Lists
+pub mod Collected
 pub mod Unique

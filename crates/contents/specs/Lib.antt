@@ -1,6 +1,5 @@
 pub mod Answers
-pub mod Edges
+pub mod Collecting
 pub mod Searches
+pub mod Slots
 pub mod Files
-pub mod Records
-pub mod Lists

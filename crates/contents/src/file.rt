@@ -1,78 +1,76 @@
 // The file that keeps a list: a version, the number of bytes that follow, and the numbers, the highest byte first.
-ghost use Rattle.std.specs.Prelude.{◌≡◌, ◌+◌, ◌*◌, ◌/◌, ◌≤◌, ◌<◌, ◌∷◌, length, take, drop};
+ghost use Rattle.std.specs.Prelude.{◌≡◌, ◌+◌, ◌*◌, ◌/◌, ◌^◌, ◌≤◌, ◌<◌, ◌∷◌, length, take, drop, map};
 ghost use Rattle.std.proofs.lemmas.List.Edits.{sets};
-ghost use Rattle.form.specs.Writing.{over, Follows};
-ghost use Rattle.form.specs.Contents.{in_order, big, big_number, big_all, entries_in, filling_outcome, write_numbers, read_file};
-ghost use Rattle.contents.specs.Answers.{written_outcome, opened_outcome, Fills};
-ghost use Rattle.contents.specs.Files.{judged_by, entry_in, is_headed, numbers_in};
-ghost use Rattle.contents.specs.Records.{opened_number};
+ghost use Rattle.form.specs.Writing.{over, outcome, Follows};
+ghost use Rattle.form.specs.Contents.{big, big_number, file, filling_outcome, write_numbers, write_file, read_file};
+ghost use Rattle.contents.specs.Answers.{entry_of, written_outcome, opened_outcome, Fills, FillsEntries};
+ghost use Rattle.contents.specs.Files.{judged, entry_in, is_headed};
+ghost use Rattle.contents.specs.Slots.{entry_put, Gets};
+ghost use Rattle.contents.specs.declared.file.WriteError.TheVariants as Unwritten;
+ghost use Rattle.contents.specs.declared.file.ReadError.TheVariants as Unread;
 
 use crate::Entry;
-use crate::searching::{Searched, Seen, search};
+use crate::searching::{BadIndex, search_in};
+use crate::slots::{Slot, copy, whole};
 
-// The number of bytes; or a refusal, which leaves the output as it is.
-#[derive(Clone, Copy)]
-pub enum Written {
-    Written(usize),
+// Why no file is written; the output is left as it is.
+#[derive(Clone, Copy, Debug, PartialEq, Eq)]
+pub enum WriteError {
     BadIndex,
     TooLong(usize),
     NoRoom(usize),
 }
 
-// The number of entries; or a refusal, which leaves the list as it is.
-#[derive(Clone, Copy)]
-pub enum Opened {
-    Listed(usize),
+impl From<BadIndex> for WriteError {
+    ghost from_gives = { λ _ r. r ≡ Unwritten.BadIndex };
+
+    fn from(_e: BadIndex) -> WriteError {
+        WriteError::BadIndex
+    }
+}
+
+// Why no file is read; the list is left as it is.
+#[derive(Clone, Copy, Debug, PartialEq, Eq)]
+pub enum ReadError {
     BadIndex,
     ListFull(usize),
 }
 
-impl Opened {
-    // How many entries are listed.
-    pub(crate) fn number(self) -> usize
-        ensures { result ≡ opened_number self }
-    {
-        match self {
-            Opened::Listed(n) => n,
-            Opened::BadIndex => 0,
-            Opened::ListFull(_) => 0,
-        }
+impl From<BadIndex> for ReadError {
+    ghost from_gives = { λ _ r. r ≡ Unread.BadIndex };
+
+    fn from(_e: BadIndex) -> ReadError {
+        ReadError::BadIndex
     }
 }
 
 // So many entries that their bytes are no number of four bytes.
 const MANY: usize = 536870912;
 
-// What is said of n entries that were found in order or not, and of the room for a file of them.
-pub(crate) fn judge(order: Searched, n: usize, room: usize) -> Written
-    ensures { result ≡ judged_by order n room }
+// The length of a file of n entries, with room for so many bytes.
+fn judge(n: usize, room: usize) -> Result<usize, WriteError>
+    ensures { result ≡ judged n room }
 {
-    if let Searched::BadIndex = order {
-        return Written::BadIndex;
-    }
     if MANY <= n {
-        return Written::TooLong(n);
+        return Err(WriteError::TooLong(n));
     }
     let need = 5 + 8 * n;
     if room < need {
-        return Written::NoRoom(need);
+        return Err(WriteError::NoRoom(need));
     }
-    Written::Written(need)
+    Ok(need)
 }
 
 // A number of four bytes at a place, the highest byte first.
-pub(crate) fn put_number(out: &mut [u8], at: usize, x: u32)
+fn put_number(out: &mut [u8], at: usize, x: u32)
     requires { at + 4 ≤ length out.old }
     ensures { out.new ≡ sets out.old at (big x) }
 {
-    out[at] = (x / 16777216) as u8;
-    out[at + 1] = (x / 65536 % 256) as u8;
-    out[at + 2] = (x / 256 % 256) as u8;
-    out[at + 3] = (x % 256) as u8;
+    out[at..at + 4].copy_from_slice(&x.to_be_bytes());
 }
 
 // The file's first five bytes, for n entries.
-pub(crate) fn put_head(out: &mut [u8], n: usize)
+fn put_head(out: &mut [u8], n: usize)
     requires { (5 ≤ length out.old) × (n < 536870912) }
     ensures { out.new ≡ sets out.old 0 (1 ∷ big (8 * n)) }
 {
@@ -80,30 +78,64 @@ pub(crate) fn put_head(out: &mut [u8], n: usize)
     put_number(out, 1, (8 * n) as u32);
 }
 
-// The numbers of a list after those bytes.
-fn put_numbers(out: &mut [u8], list: &[u32])
-    requires { 5 + 4 * length list.now ≤ length out.old }
-    ensures { out.new ≡ sets out.old 5 (big_all list.now) }
+// Where the entry after i others stands.
+fn place(i: usize) -> usize
+    requires { 5 + 8 * i < 2 ^ 64 }
+    ensures { result ≡ 5 + 8 * i }
 {
-    let mut i: usize = 0;
-    while i < list.len() {
-        put_number(out, 5 + 4 * i, list[i]);
-        i += 1;
-    }
+    5 + 8 * i
+}
+
+// The entry after i others.
+pub(crate) fn put_entry(out: &mut [u8], i: usize, e: Entry)
+    requires { 5 + 8 * i + 8 ≤ length out.old }
+    ensures { out.new ≡ entry_put i (entry_of e) out.old }
+{
+    put_number(out, place(i), e.start);
+    put_number(out, place(i) + 4, e.end);
+}
+
+// The length of the file of a list, with room for so many bytes.
+fn measure<T: Slot>(list: &[T], room: usize) -> Result<usize, WriteError>
+    ensures { written_outcome result ≡ outcome (write_file room (T.entries list.now)) }
+{
+    search_in(list, 0)?;
+    judge(T::count(list), room)
+}
+
+// The file of a list at the front of the output.
+fn put_file<T: Slot>(list: &[T], out: &mut [u8])
+    requires few { length (T.entries list.now) < 536870912 }
+    requires room { 5 + 8 * length (T.entries list.now) ≤ length out.old }
+    ensures { out.new ≡ over (file (T.entries list.now)) out.old }
+{
+    let n = T::count(list);
+    put_head(out, n);
+    copy(list, n, out);
+}
+
+// The file of a list at the front of the output, or a refusal that leaves the output as it is.
+fn write_list<T: Slot>(list: &[T], out: &mut [u8]) -> Result<usize, WriteError>
+    ensures { Follows (write_file (length out.old) (T.entries list.now)) (written_outcome result) out.old out.new }
+{
+    let need = measure(list, out.len())?;
+    put_file(list, out);
+    Ok(need)
 }
 
 // The file of a list of numbers at the front of the output, or a refusal that leaves the output as it is.
-pub fn write(list: &[u32], out: &mut [u8]) -> Written
+pub fn write(list: &[u32], out: &mut [u8]) -> Result<usize, WriteError>
     ensures { Follows (write_numbers (length out.old) list.now) (written_outcome result) out.old out.new }
 {
-    let n = list.len() / 2;
-    let judged = judge(search(list, 0), n, out.len());
-    let Written::Written(_) = judged else {
-        return judged;
-    };
-    put_head(out, n);
-    put_numbers(out, list);
-    judged
+    whole(list)?;
+    write_list(list, out)
+}
+
+// The file of a list of entries at the front of the output, or a refusal that leaves the output as it is.
+pub fn write_entries(list: &[Entry], out: &mut [u8]) -> Result<usize, WriteError>
+    ensures { Follows (write_file (length out.old) (map entry_of list.now)) (written_outcome result) out.old out.new }
+{
+    write_list(list, out)
 }
 
 // The number of four bytes at a place, the highest byte first.
@@ -111,11 +143,7 @@ fn number_at(file: &[u8], at: usize) -> u32
     requires { at + 4 ≤ length file.now }
     ensures { result ≡ big_number (take 4 (drop at file.now)) }
 {
-    let a = file[at] as u32;
-    let b = file[at + 1] as u32;
-    let c = file[at + 2] as u32;
-    let d = file[at + 3] as u32;
-    16777216 * a + 65536 * b + 256 * c + d
+    u32::from_be_bytes([file[at], file[at + 1], file[at + 2], file[at + 3]])
 }
 
 // The entry after i others.
@@ -123,7 +151,7 @@ pub(crate) fn entry_at(file: &[u8], i: usize) -> Entry
     requires { 5 + 8 * i + 8 ≤ length file.now }
     ensures { result ≡ entry_in file.now i }
 {
-    let at = 5 + 8 * i;
+    let at = place(i);
     Entry {
         start: number_at(file, at),
         end: number_at(file, at + 4),
@@ -147,57 +175,40 @@ fn is_headed(file: &[u8]) -> bool
     (len - 5) % 8 == 0
 }
 
-// Whether the n entries of a file are in order.
-fn is_ordered(file: &[u8], n: usize) -> bool
-    requires { 5 + 8 * n ≤ length file.now }
-    ensures { result ≡ in_order (entries_in n (drop 5 file.now)) }
-{
-    let mut s = Seen::new(0);
-    let mut i: usize = 0;
-    while i < n {
-        s = s.past(i, entry_at(file, i));
-        i += 1;
-    }
-    s.ordered
-}
-
 // How many entries a file has, into a list with room for so many.
-pub(crate) fn admit(file: &[u8], room: usize) -> Opened
+fn admit(file: &[u8], room: usize) -> Result<usize, ReadError>
     ensures { opened_outcome result ≡ filling_outcome (read_file room file.now) }
 {
     if !is_headed(file) {
-        return Opened::BadIndex;
+        return Err(ReadError::BadIndex);
     }
-    let n = (file.len() - 5) / 8;
-    if !is_ordered(file, n) {
-        return Opened::BadIndex;
-    }
+    search_in(file, 0)?;
+    let n = u8::count(file);
     if room < n {
-        return Opened::ListFull(n);
+        return Err(ReadError::ListFull(n));
     }
-    Opened::Listed(n)
+    Ok(n)
 }
 
-// The first n numbers of a file at the front of a list.
-fn take_numbers(file: &[u8], n: usize, list: &mut [u32])
-    requires { (5 + 4 * n ≤ length file.now) × (n ≤ length list.old) }
-    ensures { list.new ≡ over (numbers_in n (drop 5 file.now)) list.old }
+// The entries of a file at the front of the list, or a refusal that leaves the list as it is.
+fn read_list<T: Slot>(file: &[u8], list: &mut [T]) -> Result<usize, ReadError>
+    ensures { Gets T.put (read_file (length (T.entries list.old)) file.now) (opened_outcome result) list.old list.new }
 {
-    let mut i: usize = 0;
-    while i < n {
-        list[i] = number_at(file, 5 + 4 * i);
-        i += 1;
-    }
+    let n = admit(file, T::count(list))?;
+    copy(file, n, list);
+    Ok(n)
 }
 
 // The entries of a file at the front of a list of numbers, two for each, or a refusal that leaves the list as it is.
-pub fn read(file: &[u8], list: &mut [u32]) -> Opened
+pub fn read(file: &[u8], list: &mut [u32]) -> Result<usize, ReadError>
     ensures { Fills (read_file (length list.old / 2) file.now) (opened_outcome result) list.old list.new }
 {
-    let found = admit(file, list.len() / 2);
-    let Opened::Listed(n) = found else {
-        return found;
-    };
-    take_numbers(file, 2 * n, list);
-    found
+    read_list(file, list)
+}
+
+// The entries of a file at the front of the list, or a refusal that leaves the list as it is.
+pub fn read_entries(file: &[u8], list: &mut [Entry]) -> Result<usize, ReadError>
+    ensures { FillsEntries (read_file (length list.old) file.now) (opened_outcome result) list.old list.new }
+{
+    read_list(file, list)
 }

@@ -1,138 +1,107 @@
-// The entries of a save, into a list of numbers, two for each.
-ghost use Rattle.std.specs.Prelude.{◌≡◌, ◌+◌, ◌*◌, ◌/◌, ◌≤◌, ◌<◌, length, set, take};
-ghost use Rattle.form.specs.Refusals.{refusal_at};
+// The entries of a save, into a list.
+ghost use Rattle.std.specs.Prelude.{◌≡◌, ◌/◌, ◌≤◌, ◌<◌, ◌^◌, length};
 ghost use Rattle.form.specs.Saves.{LIMIT as Saves-as-LIMIT};
-ghost use Rattle.form.specs.Writing.{declined, over};
-ghost use Rattle.form.specs.Contents.{fill as Contents·fill};
-ghost use Rattle.payload.specs.Answers.{fault_of};
-ghost use Rattle.contents.specs.Answers.{filled_outcome, Fills};
-ghost use Rattle.contents.specs.Edges.{ended, started, Collects};
-ghost use Rattle.contents.specs.Records.{filled_number};
+ghost use Rattle.form.specs.Contents.{span, fill as Contents·fill};
+ghost use Rattle.contents.specs.Answers.{entry_of, filled_outcome, Fills, FillsEntries};
+ghost use Rattle.contents.specs.Slots.{Gets};
+ghost use Rattle.contents.specs.Collecting.{end_by, Collects};
+ghost use Rattle.contents.specs.declared.filling.FillError.TheVariants as Unfilled;
 
-use keys::{Next, Wanted};
-use payload::LexError;
+use crate::Entry;
+use crate::slots::{Slot, copy};
+use keys::Key;
+use payload::LexErrorAt;
 
-// The number of entries; or a refusal, which leaves the list as it is.
-#[derive(Clone, Copy)]
-pub enum Filled {
-    Listed(usize),
-    Eof(usize, usize),
-    InvalidRgb(usize),
+// Why a list is not filled; it is left as it is.
+#[derive(Clone, Copy, Debug, PartialEq, Eq)]
+pub enum FillError {
+    Refused(LexErrorAt),
     ListFull(usize),
     TooLong(usize),
 }
 
-impl Filled {
-    // How many entries are listed.
-    pub(crate) fn number(self) -> usize
-        ensures { result ≡ filled_number self }
-    {
-        match self {
-            Filled::Listed(n) => n,
-            Filled::Eof(_, _) => 0,
-            Filled::InvalidRgb(_) => 0,
-            Filled::ListFull(_) => 0,
-            Filled::TooLong(_) => 0,
-        }
+impl From<LexErrorAt> for FillError {
+    ghost from_gives = { λ e r. r ≡ Unfilled.Refused e };
+
+    fn from(e: LexErrorAt) -> FillError {
+        FillError::Refused(e)
     }
 }
 
-// A number at a place of the list, if it reaches so far.
-fn put(list: &mut [u32], at: usize, x: u32)
-    ensures { list.new ≡ set list.old at x }
+// The entry of a key, up to the next one or to the save's end.
+fn entry(key: Key, next: Option<Key>, end: usize) -> Entry
+    requires start { key.at < 2 ^ 32 }
+    requires end { end_by next end < 2 ^ 32 }
+    ensures { entry_of result ≡ span key.at (end_by next end) }
 {
-    if at < list.len() {
-        list[at] = x;
+    let end = match next {
+        Some(next) => next.at,
+        None => end,
+    };
+    Entry {
+        start: key.at as u32,
+        end: end as u32,
     }
 }
 
-// The end of the last of n entries.
-fn put_end(list: &mut [u32], n: usize, p: u32)
-    requires { n ≤ Saves-as-LIMIT }
-    ensures { list.new ≡ ended n p list.old }
+// An entry after i others, if the list reaches so far.
+fn put<T: Slot>(list: &mut [T], i: usize, e: Entry)
+    ensures list { i < length (T.entries list.old) → list.new ≡ T.put i (entry_of e) list.old }
+    ensures count { length (T.entries list.new) ≡ length (T.entries list.old) }
 {
-    if n != 0 {
-        put(list, 2 * n - 1, p);
-    }
-}
-
-// A key's place after n entries: there the last one ends, and the next one begins.
-fn put_start(list: &mut [u32], n: usize, p: u32)
-    requires { n ≤ Saves-as-LIMIT }
-    ensures { list.new ≡ started n p list.old }
-{
-    put_end(list, n, p);
-    put(list, 2 * n, p);
-}
-
-// The refusal of a token at a place.
-fn refused(e: LexError, at: usize) -> Filled
-    ensures { filled_outcome result ≡ declined (refusal_at at (fault_of e)) }
-{
-    match e {
-        LexError::Eof(missing) => Filled::Eof(at, missing),
-        LexError::InvalidRgb => Filled::InvalidRgb(at),
+    if i < T::count(list) {
+        T::put(list, i, e);
     }
 }
 
 // The entries of a save into the list, as far as it reaches, and how many there are; or why they cannot be told.
-pub(crate) fn collect(bytes: &[u8], list: &mut [u32]) -> Filled
+fn collect<T: Slot>(bytes: &[u8], list: &mut [T]) -> Result<usize, LexErrorAt>
     requires { length bytes.now ≤ Saves-as-LIMIT }
-    ensures { Collects bytes.now (filled_outcome result) list.old list.new }
+    ensures { Collects T.put (length (T.entries list.old)) bytes.now result list.old list.new }
 {
-    let mut at: usize = 0;
-    let mut n: usize = 0;
-    loop {
-        let next = keys::next_key(bytes, at, Wanted::Any);
-        match next {
-            Next::Key(p, after) => {
-                put_start(list, n, p as u32);
-                n += 1;
-                at = after;
-            }
-            Next::End => {
-                put_end(list, n, bytes.len() as u32);
-                return Filled::Listed(n);
-            }
-            Next::Refused(e, p) => {
-                return refused(e, p);
-            }
-        }
+    let mut n = 0;
+    let mut key = keys::next_key(bytes, 0, None)?;
+    while let Some(k) = key {
+        key = keys::next_key(bytes, k.end, None)?;
+        put(list, n, entry(k, key, bytes.len()));
+        n += 1;
     }
+    Ok(n)
 }
 
-// The first n numbers of one list at the front of another.
-fn copy(from: &[u32], n: usize, list: &mut [u32])
-    requires { (n ≤ length from.now) × (n ≤ length list.old) }
-    ensures { list.new ≡ over (take n from.now) list.old }
-{
-    let mut i: usize = 0;
-    while i < n {
-        list[i] = from[i];
-        i += 1;
-    }
-}
-
-// The entries of a save at the front of the list, or a refusal that leaves the list as it is. The first entries are kept on the way, so
-// that a save with no more of them is gone over once.
-pub fn fill(bytes: &[u8], list: &mut [u32]) -> Filled
-    ensures { Fills (Contents·fill (length list.old / 2) bytes.now) (filled_outcome result) list.old list.new }
+// The entries of a save at the front of the list, or a refusal that leaves the list as it is. The first entries are kept on the way, as many
+// as the last list has room for, so that a save with no more of them is gone over once.
+fn fill_list<T: Slot>(bytes: &[u8], list: &mut [T], early: &mut [Entry]) -> Result<usize, FillError>
+    ensures { Gets T.put (Contents·fill (length (T.entries list.old)) bytes.now) (filled_outcome result) list.old list.new }
 {
     let len = bytes.len();
     if token::LIMIT < len {
-        return Filled::TooLong(len);
+        return Err(FillError::TooLong(len));
     }
-    let mut early: [u32; 65536] = [0; 65536];
-    let collected = collect(bytes, &mut early);
-    let Filled::Listed(n) = collected else {
-        return collected;
-    };
-    if list.len() / 2 < n {
-        return Filled::ListFull(n);
+    let n = collect(bytes, early)?;
+    if T::count(list) < n {
+        return Err(FillError::ListFull(n));
     }
-    if n <= 32768 {
-        copy(&early, 2 * n, list);
-        return collected;
+    if n <= early.len() {
+        copy(early, n, list);
+    } else {
+        collect(bytes, list)?;
     }
-    collect(bytes, list)
+    Ok(n)
+}
+
+// The entries of a save at the front of a list of numbers, two for each, or a refusal that leaves the list as it is. The first 32,768 are kept
+// on the way.
+pub fn fill(bytes: &[u8], list: &mut [u32]) -> Result<usize, FillError>
+    ensures { Fills (Contents·fill (length list.old / 2) bytes.now) (filled_outcome result) list.old list.new }
+{
+    let mut early = [Entry { start: 0, end: 0 }; 32768];
+    fill_list(bytes, list, &mut early)
+}
+
+// The entries of a save at the front of the list, or a refusal that leaves the list as it is. None is kept on the way.
+pub fn fill_entries(bytes: &[u8], list: &mut [Entry]) -> Result<usize, FillError>
+    ensures { FillsEntries (Contents·fill (length list.old) bytes.now) (filled_outcome result) list.old list.new }
+{
+    fill_list(bytes, list, &mut [])
 }

@@ -1,17 +1,14 @@
 // A table of contents: the entries of a save, which of them holds a position, and the file that keeps them.
 #![tactic(auto)]
 
-mod entries;
 mod file;
 mod filling;
-mod records;
 mod searching;
+mod slots;
 
-pub use crate::entries::{fill_entries, read_entries};
-pub use crate::file::{Opened, Written, read, write};
-pub use crate::filling::{Filled, fill};
-pub use crate::records::{search_entries, write_entries};
-pub use crate::searching::{Searched, search};
+pub use crate::file::{ReadError, WriteError, read, read_entries, write, write_entries};
+pub use crate::filling::{FillError, fill, fill_entries};
+pub use crate::searching::{BadIndex, search, search_entries};
 
 // Where an entry begins, and the place after it.
 #[repr(C)]

@@ -5,21 +5,13 @@ ghost use Rattle.std.specs.Prelude.{◌≤◌, ◌≡◌, length};
 ghost use Rattle.form.specs.Writing.{written, leaves};
 ghost use Rattle.form.specs.Listing.{listing};
 
-use listing::Listed;
-use stdio::Input;
-
-// The dump of a save at the front of out; its length.
+// The dump of a save at the front of out, which has room for every dump; its length.
 fn dump(bytes: &[u8], out: &mut [u8]) -> usize
     requires { (length bytes.now ≤ 32768) × (442431 ≤ length out.old) }
     ensures len { result ≡ length (listing bytes.now) }
     ensures output { out.new ≡ leaves (written (listing bytes.now)) out.old }
 {
-    match listing::list(bytes, out) {
-        Listed::Written(n) => n,
-        // Neither comes: there is room for every dump.
-        Listed::NoRoom(n) => n,
-        Listed::TooLong(n) => n,
-    }
+    listing::list(bytes, out).unwrap()
 }
 
 // Writes the dump of a save by way of out.
@@ -35,14 +27,11 @@ fn main(rt: HostRuntime) {
     // Room for every dump: 27 bytes for each two of the save, and 63 for the last line.
     let mut out = [0u8; 442431];
     match stdio::read_all(&mut rt.stdin(), &mut bytes) {
-        Input::Got(n) => {
-            if n <= 32768 {
-                show(&rt, &bytes[..n], &mut out);
-            } else {
-                stdio::print(&rt, b"too long\n");
-            }
+        Ok(n) if n <= 32768 => show(&rt, &bytes[..n], &mut out),
+        Ok(_) => {
+            stdio::print(&rt, b"too long\n");
         }
-        Input::Failed => {
+        Err(_) => {
             stdio::write_all(&mut rt.stderr(), b"cannot read\n");
         }
     }

@@ -4,9 +4,10 @@ use native.Mathlib.Nat.{le_of_suc-le-suc, not-suc-le-zero}
 use native.Mathlib.Omega.{arith}
 use mathlib.Core.Path.{◌≡◌, refl, sym, ap, ◌∙◌}
 use mathlib.Core.Bool.{Bool, true, false}
+use Rattle.std.specs.Prelude.{Some, None}
 use mathlib.Core.List.{List, [], ◌∷◌, ◌++◌, append-nil}
-use lib.ListN.{length, take, drop, get_or, set, replicate, length-drop, drop_of_length-le}
-use lib.Seq.{get_or-drop, length-take-le}
+use lib.ListN.{length, take, drop, get_or, replicate, length-drop, drop_of_length-le}
+use lib.Seq.{length-take-le}
 use lib.Dec.{leb}
 use borrow.Author.Tests.{le-leb, leb-true, leb-false}
 use mir.Syntax.{w8, w64}
@@ -30,7 +31,6 @@ use Rattle.lexeme.specs.declared.TokenKind.{TokenKind}
 use Rattle.lexeme.specs.declared.TokenKind.TheVariants.{Lookup, F64, Id}
 use Rattle.fast.specs.Steps.{stepped, slowly, alone_of, named_of, copied, compactly, texted_by, texted}
 use Rattle.fast.specs.declared.FastToken.{FastToken}
-use Rattle.fast.specs.declared.Step.TheVariants.{Fast, Slow}
 
 -- ---- the count of bytes in a range of ids
 
@@ -39,20 +39,6 @@ at-most-7 x b h = omega arith
 
 pub narrow : (x b : ℕ) → x < b + 8 → Fits w64 (x - b)
 narrow x b h = omega arith
-
--- ---- one byte more is held
-
-more : (i : ℕ) (t held : List ℕ) → i < length t → i < length held → set (take i t ++ drop i held) i (get_or t i 0) ≡ take (suc i) t ++ drop (suc i) held
-more i [] held h l = absurd (not-suc-le-zero h)
-more i (b ∷ t) [] h l = absurd (not-suc-le-zero l)
-more zero (b ∷ t) (x ∷ held) h l = refl
-more (suc i) (b ∷ t) (x ∷ held) h l = ap (λ (u : List ℕ). b ∷ u) (more i t held (le_of_suc-le-suc h) (le_of_suc-le-suc l))
-
-pub hold-more : (i from : ℕ) (s held : List ℕ) → i < length (drop from s) → i < length held
-    → set (take i (drop from s) ++ drop i held) i (get_or s (from + i) 0) ≡ take (i + 1) (drop from s) ++ drop (i + 1) held
-hold-more i from s held h l =
-    let e : i + 1 ≡ suc i = omega arith in
-    rw (sym (get_or-drop from s i 0), e) (more i (drop from s) held h l)
 
 -- ---- numbers over the front of eight bytes
 
@@ -122,7 +108,7 @@ module _ {s held : List ℕ} (r : Ready s held) where
   unfolding step_by step_text
   text-arm f k kinds = rw (kinds, as_read 2 (drop 2 s) held (drop-bytes 2 s bytes) (room (omega arith))) (go (leb (4 + le (take 2 (drop 2 s))) (length s)))
     where
-      go : (b : Bool) → stepped (pick b (record { step = Fast k (4 + le (take 2 (drop 2 s))); held = take 2 (drop 2 s) ++ drop 2 held }) (record { step = Slow; held = held }))
+      go : (b : Bool) → stepped (pick b (record { step = Some (k, 4 + le (take 2 (drop 2 s))); held = take 2 (drop 2 s) ++ drop 2 held }) (record { step = None; held = held }))
           ≡ pick b (record { step = fast (kind_number k) (4 + le (take 2 (drop 2 s))); held = take 2 (drop 2 s) ++ drop 2 held }) (record { step = slow; held = held })
       go true = refl
       go false = refl
@@ -162,7 +148,7 @@ module _ (s : List ℕ) (long : 16 ≤ length s) where
     unfolding mapped
     compact-there = rw (le-leb w 7 small, num-there w s 2 (rw length-drop (omega arith)))
 
-    pub compact-got : {x n : ℕ} → compact w negative s 2 ≡ found x n → record { step = Fast F64 n; held = le_bytes 8 x } ≡ compactly w negative s
+    pub compact-got : {x n : ℕ} → compact w negative s 2 ≡ found x n → record { step = Some (F64, n); held = le_bytes 8 x } ≡ compactly w negative s
     compact-got {x} {n} e =
         let d = sym e ∙ compact-there in
         let a : x ≡ signed_by negative (le (take w (drop 2 s))) = cc in
@@ -195,7 +181,7 @@ module _ (s : List ℕ) (long : 16 ≤ length s) where
   text-within e = let d = text-there e in rw d.0 d.1
 
   module _ (k : TokenKind) (held : List ℕ) where
-    pub text-got : {x : Text} {n : ℕ} → placed text_of (at string s 2) ≡ found x n → record { step = Fast k (4 + x.len); held = take 2 (drop 2 s) ++ drop 2 held } ≡ texted k s held
+    pub text-got : {x : Text} {n : ℕ} → placed text_of (at string s 2) ≡ found x n → record { step = Some (k, 4 + x.len); held = take 2 (drop 2 s) ++ drop 2 held } ≡ texted k s held
     text-got e = let d = text-there e in rw (le-leb (4 + size) (length s) d.1, d.0)
 
     pub text-slow : {why : Fault} → placed text_of (at string s 2) ≡ refused why → slowly held ≡ texted k s held

@@ -11,19 +11,11 @@ ghost use Rattle.lexeme.specs.declared.TokenKind.TheVariants.{Lookup};
 ghost use Rattle.fast.specs.Steps.{stepped, slowly, alone_of, named_of, copied, compactly, texted};
 
 use lexeme::{LexemeId, TokenKind, number};
-use payload::{ReadId, ReadString, ReadU64};
 
-// The kind of the next token and its length; or not fast.
-#[derive(Clone, Copy)]
-pub enum Step {
-    Fast(TokenKind, usize),
-    Slow,
-}
-
-// A step, and the eight bytes that are held after it.
+// The kind of the next token and its length, or none where it is not fast; and the eight bytes that are held after it.
 #[derive(Clone, Copy)]
 pub struct FastToken {
-    pub step: Step,
+    pub step: Option<(TokenKind, usize)>,
     pub held: [u8; 8],
 }
 
@@ -31,10 +23,7 @@ pub struct FastToken {
 fn slow(held: [u8; 8]) -> FastToken
     ensures { result ≡ slowly held }
 {
-    FastToken {
-        step: Step::Slow,
-        held,
-    }
+    FastToken { step: None, held }
 }
 
 // The bytes after the id, over the front of eight bytes.
@@ -42,11 +31,9 @@ fn copy(window: &[u8], kind: TokenKind, width: usize, held: [u8; 8]) -> FastToke
     requires { (width ≤ 8) × (16 ≤ length window.now) }
     ensures { result ≡ copied kind width window.now held }
 {
-    let bytes = hold::hold(window, 2, width, held);
-    let len = 2 + width;
     FastToken {
-        step: Step::Fast(kind, len),
-        held: bytes,
+        step: Some((kind, 2 + width)),
+        held: hold::hold(window, 2, width, held),
     }
 }
 
@@ -63,14 +50,12 @@ fn compact(window: &[u8], width: usize, negative: bool, held: [u8; 8]) -> FastTo
     requires { (width ≤ 7) × (16 ≤ length window.now) }
     ensures { result ≡ compactly width negative window.now }
 {
-    let r = payload::read_compact_f64(window, 2, width, negative);
-    let ReadU64::Got(x, next) = r else {
+    let Ok((x, next)) = payload::read_compact_f64(window, 2, width, negative) else {
         return slow(held);
     };
-    let bytes = hold::spell(x);
     FastToken {
-        step: Step::Fast(TokenKind::F64, next),
-        held: bytes,
+        step: Some((TokenKind::F64, next)),
+        held: hold::spell(x),
     }
 }
 
@@ -79,15 +64,12 @@ fn string(window: &[u8], kind: TokenKind, held: [u8; 8]) -> FastToken
     requires { 16 ≤ length window.now }
     ensures { result ≡ texted kind window.now held }
 {
-    let r = payload::read_string(window, 2);
-    let ReadString::Got(text, _) = r else {
+    let Ok((text, _)) = payload::read_string(window, 2) else {
         return slow(held);
     };
-    let bytes = hold::hold(window, 2, 2, held);
-    let len = 4 + text.len;
     FastToken {
-        step: Step::Fast(kind, len),
-        held: bytes,
+        step: Some((kind, 4 + text.len)),
+        held: hold::hold(window, 2, 2, held),
     }
 }
 
@@ -96,7 +78,7 @@ fn alone(kind: TokenKind, held: [u8; 8]) -> FastToken
     ensures { result ≡ alone_of kind held }
 {
     FastToken {
-        step: Step::Fast(kind, 2),
+        step: Some((kind, 2)),
         held,
     }
 }
@@ -106,8 +88,7 @@ fn named(window: &[u8], held: [u8; 8]) -> FastToken
     requires { 16 ≤ length window.now }
     ensures { result ≡ named_of window.now held }
 {
-    let bytes = hold::hold(window, 0, 2, held);
-    alone(TokenKind::Id, bytes)
+    alone(TokenKind::Id, hold::hold(window, 0, 2, held))
 }
 
 // The token of an id, which the window begins with.
@@ -156,8 +137,7 @@ pub fn next_token_fast(window: &[u8], held: [u8; 8]) -> FastToken
     if window.len() < 16 {
         return slow(held);
     }
-    let r = payload::read_id(window, 0);
-    let ReadId::Got(id, _) = r else {
+    let Ok((id, _)) = payload::read_id(window, 0) else {
         return slow(held);
     };
     by_id(window, id, held)

@@ -1,28 +1,21 @@
 -- The first key that is wanted, from a place on.
-use Rattle.std.specs.Prelude.{ℕ, ◌≤◌, ◌≡◌, Bool, true, false, List, [], ◌∷◌}
+use Rattle.std.specs.Prelude.{ℕ, ◌≤◌, ◌≡◌, Bool, true, List, [], ◌∷◌, Result, Ok, Err, Option, Some, None}
 use Rattle.std.proofs.Math.Option.{none, some}
 use Rattle.form.specs.Values.{Value}
-use Rattle.form.specs.Refusals.{refusal_at}
 use Rattle.form.specs.Readers.{found, at}
 use Rattle.form.specs.Reading.{token}
 use Rattle.form.specs.Saves.{from}
 use Rattle.form.specs.Keys.{at_top, key_that, those}
 use Rattle.form.specs.Finding.{is_plain, cut_by}
-use Rattle.payload.specs.Answers.{fault_of}
-use Rattle.keys.specs.declared.Wanted.{Wanted}
-use Rattle.keys.specs.declared.Wanted.TheVariants.{Any, Plain}
-use Rattle.keys.specs.declared.Next.{Next}
-use Rattle.keys.specs.declared.Next.TheVariants.{Key, End, Refused}
+use Rattle.payload.specs.Answers.{refusal_of}
+use Rattle.lexeme.specs.declared.LexemeId.{LexemeId}
+use Rattle.payload.specs.declared.answers.LexErrorAt.{LexErrorAt}
+use Rattle.keys.specs.declared.Key.{Key}
 
--- the token is wanted
-unfoldable pub wants : Wanted → Value → Bool
-wants Any v = true
-wants (Plain i) v = is_plain i.0 v
-
--- and if it is no plain id
-unfoldable pub wants_any : Wanted → Bool
-wants_any Any = true
-wants_any (Plain i) = false
+-- the token is wanted: every one is, or the plain id that is named
+unfoldable pub wants : Option LexemeId → Value → Bool
+wants None v = true
+wants (Some i) v = is_plain i.0 v
 
 -- the keys from place p on that are wanted
 abbrev pub wanted_from : (Value → Bool) → List ℕ → ℕ → List (ℕ × Value)
@@ -36,10 +29,10 @@ pub record FirstAt (t : Value → Bool) (s : List ℕ) (p q n : ℕ) (v : Value)
   pub ending : cut_by (from s p) ≡ cut_by (from s n)
 
 -- there is a first, there is none and all was read, or there is none before a refusal
-abbrev pub Nexts : (Value → Bool) → List ℕ → ℕ → Next → Type 0
-Nexts t s p (Key q n) = (v : Value) × FirstAt t s p q n v
-Nexts t s p End = (wanted_from t s p ≡ []) × (cut_by (from s p) ≡ none)
-Nexts t s p (Refused e q) = (wanted_from t s p ≡ []) × (cut_by (from s p) ≡ some (refusal_at q (fault_of e)))
+abbrev pub Nexts : (Value → Bool) → List ℕ → ℕ → Result (Option Key) LexErrorAt → Type 0
+Nexts t s p (Ok (Some k)) = (v : Value) × FirstAt t s p k.at k.end v
+Nexts t s p (Ok None) = (wanted_from t s p ≡ []) × (cut_by (from s p) ≡ none)
+Nexts t s p (Err e) = (wanted_from t s p ≡ []) × (cut_by (from s p) ≡ some (refusal_of e))
 
-pub record NextKey (t : Value → Bool) (s : List ℕ) (p : ℕ) (r : Next) : Type 0 where
+pub record NextKey (t : Value → Bool) (s : List ℕ) (p : ℕ) (r : Result (Option Key) LexErrorAt) : Type 0 where
   pub is : Nexts t s p r

@@ -35,7 +35,6 @@ pub mod Rooms
 pub mod Outputs
 pub mod Runs
 pub mod Puts
-pub mod Signs
 pub mod Unique
 pub mod Pairs
 pub mod Ordered

@@ -3,41 +3,37 @@
 use Prim.Native.Nat.{ℕ, ◌≤◌, ◌<◌}
 use native.Mathlib.Omega.{arith}
 use mathlib.Core.Path.{◌≡◌, refl, sym, ap, ◌∙◌}
-use mathlib.Core.Bool.{Bool, true, false, not, ◌&&◌}
+use mathlib.Core.Bool.{Bool, true, false, ◌&&◌}
 use mathlib.Core.Option.{Option, none, some}
 use mathlib.Core.List.{List}
+use Rattle.std.specs.Prelude.{Result, Ok, Err}
 use lib.ListN.{length}
 use lib.Dec.{eqb}
-use borrow.Author.Tests.{not-true, not-false, eqb-true, ne_eqb}
+use borrow.Author.Tests.{eqb-true, ne_eqb}
 use Rattle.form.specs.Numbers.{pick, MAX}
 use Rattle.form.specs.Refusals as F
 use Rattle.form.specs.Refusals.{Fault, too_short, bad_colour}
-use Rattle.form.specs.Readers.{Answer, found, refused, ByPlace, at}
-use Rattle.form.specs.Reading.{token}
+use Rattle.form.specs.Readers.{Answer, found, refused, ByPlace, at, mapped}
+use Rattle.form.specs.Reading.{num, token}
 use Rattle.form.specs.Skipping.{Skip, stopped}
 use Rattle.form.specs.Calls.{Cursor, moved_to, position_of, Call, gives, refuses, fits, within, ended, reads, optional, nexts, if_found, peeks, landed, skips}
 use Rattle.laws.proofs.Never.{never}
 use Rattle.laws.proofs.Elsewhere.{both}
-use Rattle.laws.proofs.Inside.{Inside as Begins, inside-placed, token-inside}
+use Rattle.laws.proofs.Inside.{Inside as Begins, inside-placed, inside-mapped, num-inside, token-inside}
 use Rattle.laws.proofs.Cursors.{Placed, fits-true, le-fits, by_place, within_in, within-unfit, within-out}
 use Rattle.laws.proofs.SkipSteps.{StopsBy}
-use Rattle.payload.specs.Answers.{fault_of}
+use Rattle.payload.specs.Answers.{fault_of, option_as, read_as, lexed_as}
+use Rattle.payload.specs.declared.answers.Eof.{Eof}
 use Rattle.payload.specs.declared.answers.LexError.{LexError}
+use Rattle.payload.specs.declared.answers.LexError.TheVariants.{Eof as Lacks}
+use Rattle.payload.specs.declared.answers.LexErrorAt.{LexErrorAt}
 use Rattle.token.specs.Tokens.{token_of, token_at}
 use Rattle.skip.specs.Skips.{skip_answer}
-use Rattle.skip.specs.declared.Skipped.{Skipped}
-use Rattle.skip.specs.declared.Skipped.TheVariants.{To, Refused}
-use Rattle.lexer.specs.Calls.{cursor_of, refusal_of, place_call, Lands}
+use Rattle.lexer.specs.Calls.{cursor_of, refusal_of, read_call, next_call, staying_call, Lands}
+use Rattle.lexer.specs.Twins.{Ends, Ended, next_of, peek_of}
 use Rattle.lexer.specs.declared.Lexer.{Lexer}
-use Rattle.lexer.specs.declared.Place.{Place}
-use Rattle.lexer.specs.declared.Place.TheVariants.{Inside, Outside}
-use Rattle.lexer.specs.declared.answers.LexerError.{LexerError}
 use Rattle.lexer.specs.declared.answers.Refusal.{Refusal}
 use Rattle.lexer.specs.declared.answers.Refusal.TheVariants.{Lexed, BadPlace}
-
--- what a `match` on an answer leaves
-pub told : {E B : Type 0} (call : E → B) {r t : E} {b : B} → call r ≡ b → r ≡ t → call t ≡ b
-told call p q = sym (ap call q) ∙ p
 
 -- ---- the place of a cursor
 
@@ -57,12 +53,12 @@ module _ (s : List ℕ) (c : Cursor) where
   outside {r} q x = refusal x (gives tt c) (λ h (q : ◌≡◌ {A = Call (Unit {0})} (refuses r c) (gives tt c)). never (cc)) q
 
 -- by what `place` answered
-module _ (c : Lexer) (s : List ℕ) {p : Place} (h : place_call c p ≡ within s (cursor_of c) (gives tt (cursor_of c))) where
-  pub told-inside : p ≡ Inside → Placed s (cursor_of c)
-  told-inside e = inside s (cursor_of c) (told (place_call c) h e)
+module _ (c : Lexer) (s : List ℕ) {p : Result (Unit {0}) Refusal} (h : staying_call (λ x. x) c p ≡ within s (cursor_of c) (gives tt (cursor_of c))) where
+  pub told-inside : {x : Unit {0}} → p ≡ Ok x → Placed s (cursor_of c)
+  told-inside e = inside s (cursor_of c) (rw e at h)
 
-  pub told-outside : {e : Refusal} → p ≡ Outside e → {A : Type 0} (x : Call A) → refuses (refusal_of e) (cursor_of c) ≡ within s (cursor_of c) x
-  told-outside q x = outside s (cursor_of c) (told (place_call c) h q) x
+  pub told-outside : {e : Refusal} → p ≡ Err e → {A : Type 0} (x : Call A) → refuses (refusal_of e) (cursor_of c) ≡ within s (cursor_of c) x
+  told-outside e x = outside s (cursor_of c) (rw e at h) x
 
 -- a place of the input has a position
 pub reaches : (s : List ℕ) (c : Cursor) → Placed s c → {d : Cursor} {n : ℕ} → d ≡ moved_to c n → n ≤ length s → position_of d d.at ≤ MAX
@@ -87,24 +83,11 @@ token_begins = inside-placed (at token) token_of token-inside
 
 -- from a place of the input
 module _ {A : Type 0} (f : ByPlace A) (s : List ℕ) (c : Cursor) (h : Placed s c) where
-  pub inside-got : {x : A} {n : ℕ} {d : Cursor} → f s c.at ≡ found x n → d ≡ moved_to c n → gives x d ≡ reads f s c
+  inside-got : {x : A} {n : ℕ} {d : Cursor} → f s c.at ≡ found x n → d ≡ moved_to c n → gives x d ≡ reads f s c
   unfolding reads ended
   inside-got {x} {n} {d} e m = let z : gives x d ≡ ended c (f s c.at) = rw (e, m) in z ∙ sym (within_in s c h)
 
-  pub inside-cut : {e : Fault} {r : F.Refusal} → f s c.at ≡ refused e → r ≡ F.refusal_at (position_of c c.at) e → refuses r c ≡ reads f s c
-  unfolding reads ended
-  inside-cut {r = r} e q = let z : refuses r c ≡ ended c (f s c.at) = rw (e, q) in z ∙ sym (within_in s c h)
-
 module _ {A : Type 0} (f : ByPlace A) (s : List ℕ) (c : Cursor) where
-  pub bad-offset : {b : Bool} → b ≡ fits s c → not b ≡ true → refuses (refusal_of (BadPlace c.offset)) c ≡ reads f s c
-  unfolding reads refusal_of
-  bad-offset {b} q t = sym (within-unfit s c (sym q ∙ not-true b t) (ended c (f s c.at)))
-
-  pub got : Begins f → {b : Bool} → b ≡ fits s c → not b ≡ false → {x : A} {n : ℕ} {d : Cursor} → f s c.at ≡ found x n → d ≡ moved_to c n → gives x d ≡ reads f s c
-  got i {b} q t {x} {n} e m =
-      let h : c.at < length s = i s c.at x n e in
-      inside-got f s c (record { fitting = fits-true s c (sym q ∙ not-false b t); there = omega arith }) e m
-
   pub cut : {e : Fault} {r : F.Refusal} → f s c.at ≡ refused e → ◌≡◌ {A = Call (Unit {0})} (refuses r c) (reads (λ _ _. refused e) s c) → refuses r c ≡ reads f s c
   unfolding reads ended
   cut {e} {r} h q = refusal s c (ended c (f s c.at)) (ended {A = Unit {0}} c (refused e)) (λ _ q. rw h (cc)) q
@@ -130,7 +113,7 @@ module _ {A : Type 0} (f : ByPlace A) (s : List ℕ) (c : Cursor) where
   began i {x} {d} =
       ends (λ r _. gives x d ≡ r → c.at < length s) (λ a n e q. i s c.at a n e) (λ e q. never (cc)) (λ p q. never (cc))
 
-  pub next-got : Begins f → {x : A} {d : Cursor} → gives x d ≡ reads f s c → gives (some x) d ≡ nexts f s c
+  next-got : Begins f → {x : A} {d : Cursor} → gives x d ≡ reads f s c → gives (some x) d ≡ nexts f s c
   unfolding reads nexts optional
   next-got i {x} {d} q =
       by_place s c (λ (y : Call A). gives x d ≡ y → gives (some x) d ≡ nexts f s c)
@@ -140,7 +123,7 @@ module _ {A : Type 0} (f : ByPlace A) (s : List ℕ) (c : Cursor) where
       b : c.at < length s
       b = began i q
 
-  pub next-end : fits s c && eqb c.at (length s) ≡ true → gives none c ≡ nexts f s c
+  next-end : fits s c && eqb c.at (length s) ≡ true → gives none c ≡ nexts f s c
   unfolding nexts
   next-end h =
       let t = both (fits s c) (eqb c.at (length s)) h in
@@ -148,7 +131,7 @@ module _ {A : Type 0} (f : ByPlace A) (s : List ℕ) (c : Cursor) where
       let z : gives none c ≡ pick (eqb c.at (length s)) (gives none c) (optional (ended c (f s c.at))) = rw t.1 in
       z ∙ sym (within_in s c (record { fitting = fits-true s c t.0; there = omega arith }))
 
-  pub next-cut : fits s c && eqb c.at (length s) ≡ false → {r : F.Refusal} → refuses r c ≡ reads f s c → refuses r c ≡ nexts f s c
+  next-cut : fits s c && eqb c.at (length s) ≡ false → {r : F.Refusal} → refuses r c ≡ reads f s c → refuses r c ≡ nexts f s c
   unfolding reads nexts optional
   next-cut h {r} q =
       refusal s c (pick (eqb c.at (length s)) (gives none c) (optional (ended c (f s c.at)))) (ended c (f s c.at))
@@ -156,22 +139,99 @@ module _ {A : Type 0} (f : ByPlace A) (s : List ℕ) (c : Cursor) where
 
   -- ---- a peek
 
-  pub peek-got : {x : A} {d : Cursor} → gives x d ≡ reads f s c → gives (some x) c ≡ peeks f s c
+  peek-got : {x : A} {d : Cursor} → gives x d ≡ reads f s c → gives (some x) c ≡ peeks f s c
   peek-got {x} {d} =
       ends (λ r p. gives x d ≡ r → gives (some x) c ≡ p) (λ a n e q. cc) (λ e q. cc) (λ p q. cc)
 
-  pub peek-none : {r : Refusal} {e : LexerError} → refuses (refusal_of r) c ≡ reads f s c → r ≡ Lexed e → gives none c ≡ peeks f s c
-  unfolding refusal_of
-  peek-none {r} {e} q h =
-      ends (λ y p. refuses (refusal_of (Lexed e)) c ≡ y → gives none c ≡ p) (λ a n _ q. cc) (λ w q. refl)
-      (λ p q. absurd (no_place e.position p (fault_of e.kind) (cc))) (told (λ r. refuses (refusal_of r) c) q h)
+  peek-none : (p : ℕ) (e : Fault) → refuses (F.refusal_at p e) c ≡ reads f s c → gives none c ≡ peeks f s c
+  peek-none p e =
+      ends (λ y z. refuses (F.refusal_at p e) c ≡ y → gives none c ≡ z) (λ a n _ q. cc) (λ w q. refl) (λ n q. absurd (no_place p n e (cc)))
 
-  pub peek-bad : {r : Refusal} {p : ℕ} → refuses (refusal_of r) c ≡ reads f s c → r ≡ BadPlace p → refuses (refusal_of r) c ≡ peeks f s c
+  peek-bad : {p : ℕ} → refuses (F.BadPlace p) c ≡ reads f s c → refuses (F.BadPlace p) c ≡ peeks f s c
+  peek-bad {p} =
+      ends (λ y z. refuses (F.BadPlace p) c ≡ y → refuses (F.BadPlace p) c ≡ z) (λ a n _ q. cc)
+      (λ w q. absurd (no_place (position_of c c.at) p w (cc))) (λ n q. cc)
+
+-- ---- what the generic functions answer, as the calls say it
+
+module _ {V A : Type 0} (value : V → A) (f : ByPlace A) (s : List ℕ) (c : Lexer) where
+  -- the same of what a value stands for
+  valued-gives : (r : Result (V × Lexer) Refusal) {v : V} {d : Cursor} → read_call (λ v. v) c r ≡ gives v d → read_call value c r ≡ gives (value v) d
+  valued-gives (Ok x) e = cc
+  valued-gives (Err w) e = cc
+
+  valued-refuses : (r : Result (V × Lexer) Refusal) {w : F.Refusal} {d : Cursor} → read_call (λ v. v) c r ≡ refuses w d → read_call value c r ≡ refuses w d
+  valued-refuses (Ok x) e = cc
+  valued-refuses (Err w) e = cc
+
+  ended-found : {v : V} {n : ℕ} → f s c.at ≡ found (value v) n → (r : Result (V × Lexer) Refusal) → Placed s (cursor_of c)
+      → read_call (λ v. v) c r ≡ gives v (moved_to (cursor_of c) n) → read_call value c r ≡ reads f s (cursor_of c)
+  ended-found e r h q = valued-gives r q ∙ inside-got f s (cursor_of c) h e refl
+
+  ended-refused : {w : Fault} → f s c.at ≡ refused w → (r : Result (V × Lexer) Refusal) → read_call (λ v. v) c r ≡ reads (λ _ _. refused w) s (cursor_of c)
+      → read_call value c r ≡ reads f s (cursor_of c)
+  unfolding reads ended
+  ended-refused {w} e r q =
+      by_place s (cursor_of c) (λ (z : Call V). read_call (λ v. v) c r ≡ z → read_call value c r ≡ reads f s (cursor_of c))
+      (λ h q. valued-refuses r q ∙ ap (ended (cursor_of c)) (sym e) ∙ sym (within_in s (cursor_of c) h))
+      (λ h l q. valued-refuses r q ∙ sym (within-out s (cursor_of c) h l _))
+      (λ h q. valued-refuses r q ∙ sym (within-unfit s (cursor_of c) h _)) q
+
+  -- whether the offset fits or not
+  by-fit : {E : Type 0} {kind : E → LexError → Type 0} {read : Result (V × ℕ) E} {r : Result (V × Lexer) Refusal} → Ended kind s c read r
+      → (fits s (cursor_of c) ≡ true → Ends kind s c read r → read_call value c r ≡ reads f s (cursor_of c)) → read_call value c r ≡ reads f s (cursor_of c)
+  unfolding reads
+  by-fit {r = r} h go = by (fits s (cursor_of c)) refl
+    where
+      by : (b : Bool) → fits s (cursor_of c) ≡ b → read_call value c r ≡ reads f s (cursor_of c)
+      by true t = go t (h.fit t)
+      by false t = valued-refuses r (h.unfit t) ∙ sym (within-unfit s (cursor_of c) t _)
+
+  eof-ended : ((a : A) (n : ℕ) → f s c.at ≡ found a n → c.at ≤ length s) → (read : Result (V × ℕ) Eof) → read_as value read ≡ f s c.at
+      → (r : Result (V × Lexer) Refusal) → Ended (λ e k. k ≡ Lacks e.0) s c read r → read_call value c r ≡ reads f s (cursor_of c)
+  eof-ended l (Ok x) q r h = by-fit h (λ t e. ended-found (sym q) r (record { fitting = fits-true s (cursor_of c) t; there = l (value x.0) x.1 (sym q) }) e)
+  eof-ended l (Err w) q r h = by-fit h (λ t e. let k = ap fault_of e.1 in ended-refused (sym q) r (rw k at e.2))
+
+  -- of a read that only lacking bytes refuse, and that finds nothing outside the bytes
+  pub read-ended : Begins f → {read : Result (V × ℕ) Eof} → read_as value read ≡ f s c.at → {r : Result (V × Lexer) Refusal} → Ended (λ e k. k ≡ Lacks e.0) s c read r
+      → read_call value c r ≡ reads f s (cursor_of c)
+  read-ended i {read} q {r} h = eof-ended (λ a n e. let l : c.at < length s = i s c.at a n e in omega arith) read q r h
+
+  -- of one from a place of the input
+  pub placed-ended : Placed s (cursor_of c) → {read : Result (V × ℕ) Eof} → read_as value read ≡ f s c.at → {r : Result (V × Lexer) Refusal} → Ended (λ e k. k ≡ Lacks e.0) s c read r
+      → read_call value c r ≡ reads f s (cursor_of c)
+  placed-ended p {read} q {r} h = eof-ended (λ _ _ _. p.there) read q r h
+
+  -- of one that may find no colour
+  pub lexed-ended : Begins f → (read : Result (V × ℕ) LexError) → lexed_as value read ≡ f s c.at → (r : Result (V × Lexer) Refusal) → Ended (λ e k. k ≡ e) s c read r
+      → read_call value c r ≡ reads f s (cursor_of c)
+  lexed-ended i (Ok x) q r h =
+      by-fit h (λ t e. let l : c.at < length s = i s c.at (value x.0) x.1 (sym q) in ended-found (sym q) r (record { fitting = fits-true s (cursor_of c) t; there = omega arith }) e)
+  lexed-ended i (Err w) q r h = by-fit h (λ t e. let k = ap fault_of e.1 in ended-refused (sym q) r (rw k at e.2))
+
+  pub nexted : Begins f → (q : Result (V × Lexer) Refusal) → read_call value c q ≡ reads f s (cursor_of c)
+      → next_call value c (next_of (fits s (cursor_of c) && eqb c.at (length s)) q) ≡ nexts f s (cursor_of c)
+  nexted i (Ok x) e = next-got f s (cursor_of c) i e
+  nexted i (Err w) e = go (fits s (cursor_of c) && eqb c.at (length s)) refl
+    where
+      go : (b : Bool) → fits s (cursor_of c) && eqb c.at (length s) ≡ b → next_call value c (next_of b (Err w)) ≡ nexts f s (cursor_of c)
+      go true t = next-end f s (cursor_of c) t
+      go false t = next-cut f s (cursor_of c) t e
+
+  pub peeked : (q : Result (V × Lexer) Refusal) → read_call value c q ≡ reads f s (cursor_of c) → staying_call (option_as value) c (peek_of q) ≡ peeks f s (cursor_of c)
   unfolding refusal_of
-  peek-bad {r} {p} q h =
-      rw h
-      (ends (λ y z. refuses (F.BadPlace p) c ≡ y → refuses (F.BadPlace p) c ≡ z) (λ a n _ q. cc)
-      (λ w q. absurd (no_place (position_of c c.at) p w (cc))) (λ n q. cc) (told (λ r. refuses (refusal_of r) c) q h))
+  peeked (Ok x) e = peek-got f s (cursor_of c) e
+  peeked (Err (Lexed l)) e = peek-none f s (cursor_of c) l.position (fault_of l.kind) e
+  peeked (Err (BadPlace p)) e = peek-bad f s (cursor_of c) e
+
+-- a number of so many bytes, and what is made of it
+pub num-ended : {V : Type 0} (value : V → ℕ) (w : ℕ) → 0 < w → (s : List ℕ) (c : Lexer) {read : Result (V × ℕ) Eof} → read_as value read ≡ at (num w) s c.at → {r : Result (V × Lexer) Refusal}
+    → Ended (λ e k. k ≡ Lacks e.0) s c read r → read_call value c r ≡ reads (at (num w)) s (cursor_of c)
+num-ended value w h s c = read-ended value (at (num w)) s c (num-inside w h)
+
+pub mapped-ended : {A : Type 0} (g : ℕ → A) (w : ℕ) → 0 < w → (s : List ℕ) (c : Lexer) {read : Result (A × ℕ) Eof} → read_as (λ x. x) read ≡ mapped g (at (num w) s c.at) → {r : Result (A × Lexer) Refusal}
+    → Ended (λ e k. k ≡ Lacks e.0) s c read r → read_call (λ x. x) c r ≡ reads (λ s p. mapped g (at (num w) s p)) s (cursor_of c)
+mapped-ended g w h s c = read-ended (λ x. x) (λ s p. mapped g (at (num w) s p)) s c (inside-mapped (at (num w)) g (num-inside w h))
 
 -- ---- skips
 
@@ -186,9 +246,9 @@ unfolding skips
 skipped f s c h e q = q ∙ ap (landed c) e ∙ sym (within_in s c h)
 
 -- where one stopped there is a position
-pub lands : (s : List ℕ) (c : Lexer) → Placed s (cursor_of c) → {f : Skip} (r : Skipped) → skip_answer r ≡ f → StopsBy (length s) f → Lands c r
-lands s c h (To n) e b = tt
-lands s c h (Refused why n) e b = let l : n ≤ length s = rw (← e) at b in omega (arith, h.fitting)
+pub lands : (s : List ℕ) (c : Lexer) → Placed s (cursor_of c) → {f : Skip} (r : Result ℕ LexErrorAt) → skip_answer r ≡ f → StopsBy (length s) f → Lands c r
+lands s c h (Ok n) e b = tt
+lands s c h (Err why) e b = let l : why.at ≤ length s = rw (← e) at b in omega (arith, h.fitting)
 
-pub stopped-lands : (c : Lexer) {r : Skipped} → Lands c r → {why : LexError} {n : ℕ} {d : Cursor} → r ≡ Refused why n → d ≡ moved_to (cursor_of c) n → position_of d d.at ≤ MAX
-stopped-lands c h {why} {n} e m = let k : Lands c (Refused why n) = rw e at h in rw m k
+pub stopped-lands : (c : Lexer) {r : Result ℕ LexErrorAt} → Lands c r → {why : LexErrorAt} {d : Cursor} → r ≡ Err why → d ≡ moved_to (cursor_of c) why.at → position_of d d.at ≤ MAX
+stopped-lands c h {why} e m = let k : Lands c (Err why) = rw e at h in rw m k

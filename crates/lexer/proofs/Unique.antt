@@ -1,61 +1,27 @@
 -- Any two results that a promise allows are equal: each answer can be read back from what it stands for. Each theorem is for every call that
--- gives the answer of its name; the other calls' promises are plain equations. Assumes nothing.
+-- gives the answer of its name, and `plain-one` for those whose value stands for itself: a number, a truth, a text or a token. The other calls'
+-- promises are plain equations. Assumes nothing.
 use Prim.Native.Nat.{ℕ}
 use mathlib.Core.Path.{◌≡◌, refl, sym, ap, ◌∙◌}
-use mathlib.Core.Bool.{Bool}
-use mathlib.Core.Option.{Option, none, some}
+use mathlib.Core.Option.{Option}
 use mathlib.Core.List.{[], ◌∷◌}
-use lib.IntN.{ℤ}
+use Rattle.std.specs.Prelude.{Result, Ok, Err, Option as MayBe, Some, None}
 use Rattle.form.specs.Refusals as F
 use Rattle.form.specs.Values.{Value}
-use Rattle.form.specs.Calls.{Cursor, Call, gives, refuses}
+use Rattle.form.specs.Calls.{Cursor, Call}
 use Rattle.laws.proofs.Unique.{same, eof_or_number}
-use Rattle.payload.specs.Answers.{colour_of}
+use Rattle.lexeme.specs.declared.LexemeId.{LexemeId}
+use Rattle.payload.specs.Answers.{option_as, colour_of}
 use Rattle.payload.specs.declared.answers.LexError.{LexError}
 use Rattle.payload.specs.declared.answers.LexError.TheVariants.{Eof, InvalidRgb}
-use Rattle.payload.specs.declared.answers.Text.{Text}
+use Rattle.payload.specs.declared.answers.Rgb.{Rgb}
 use Rattle.payload.proofs.Unique.{colour-one}
 use Rattle.token.specs.declared.Token.{Token}
-use Rattle.lexer.specs.Calls.{cursor_of, refusal_of, u8_call, u16_call, u32_call, u64_call, i32_call, i64_call, bool_call, id_call, string_call, token_call, rgb_call, next_id_call, peek_id_call, next_token_call, peek_token_call, position_call, skip_call, find_call}
+use Rattle.lexer.specs.Calls.{cursor_of, refusal_of, read_call, next_call, staying_call, skip_call}
 use Rattle.lexer.specs.declared.Lexer.{Lexer}
+use Rattle.lexer.specs.declared.answers.Halt.{Halt}
 use Rattle.lexer.specs.declared.answers.Refusal.{Refusal}
 use Rattle.lexer.specs.declared.answers.Refusal.TheVariants.{Lexed, BadPlace}
-use Rattle.lexer.specs.declared.answers.LexU8.{LexU8}
-use Rattle.lexer.specs.declared.answers.LexU8.TheVariants as U8
-use Rattle.lexer.specs.declared.answers.LexU16.{LexU16}
-use Rattle.lexer.specs.declared.answers.LexU16.TheVariants as U16
-use Rattle.lexer.specs.declared.answers.LexU32.{LexU32}
-use Rattle.lexer.specs.declared.answers.LexU32.TheVariants as U32
-use Rattle.lexer.specs.declared.answers.LexU64.{LexU64}
-use Rattle.lexer.specs.declared.answers.LexU64.TheVariants as U64
-use Rattle.lexer.specs.declared.answers.LexI32.{LexI32}
-use Rattle.lexer.specs.declared.answers.LexI32.TheVariants as I32
-use Rattle.lexer.specs.declared.answers.LexI64.{LexI64}
-use Rattle.lexer.specs.declared.answers.LexI64.TheVariants as I64
-use Rattle.lexer.specs.declared.answers.LexBool.{LexBool}
-use Rattle.lexer.specs.declared.answers.LexBool.TheVariants as Truth
-use Rattle.lexer.specs.declared.answers.LexId.{LexId}
-use Rattle.lexer.specs.declared.answers.LexId.TheVariants as Id
-use Rattle.lexer.specs.declared.answers.LexString.{LexString}
-use Rattle.lexer.specs.declared.answers.LexString.TheVariants as String
-use Rattle.lexer.specs.declared.answers.LexToken.{LexToken}
-use Rattle.lexer.specs.declared.answers.LexToken.TheVariants as Tok
-use Rattle.lexer.specs.declared.answers.LexRgb.{LexRgb}
-use Rattle.lexer.specs.declared.answers.LexRgb.TheVariants as Colour
-use Rattle.lexer.specs.declared.answers.NextId.{NextId}
-use Rattle.lexer.specs.declared.answers.NextId.TheVariants as NextI
-use Rattle.lexer.specs.declared.answers.PeekId.{PeekId}
-use Rattle.lexer.specs.declared.answers.PeekId.TheVariants as PeekI
-use Rattle.lexer.specs.declared.answers.NextToken.{NextToken}
-use Rattle.lexer.specs.declared.answers.NextToken.TheVariants as NextT
-use Rattle.lexer.specs.declared.answers.PeekToken.{PeekToken}
-use Rattle.lexer.specs.declared.answers.PeekToken.TheVariants as PeekT
-use Rattle.lexer.specs.declared.answers.LexFind.{LexFind}
-use Rattle.lexer.specs.declared.answers.LexFind.TheVariants as Find
-use Rattle.lexer.specs.declared.answers.LexPosition.{LexPosition}
-use Rattle.lexer.specs.declared.answers.LexPosition.TheVariants as Position
-use Rattle.lexer.specs.declared.answers.LexSkip.{LexSkip}
-use Rattle.lexer.specs.declared.answers.LexSkip.TheVariants as Skip
 
 abbrev lexer_of : Cursor → Lexer
 lexer_of c = record { at = c.at; offset = c.offset }
@@ -78,179 +44,109 @@ refusal-back (Lexed e) = go e.position e.kind
     go p InvalidRgb = refl
 refusal-back (BadPlace p) = refl
 
--- a call read back, by the two cases of its answer
-abbrev back : {A R : Type 0} → (A → Lexer → R) → (Refusal → R) → Call A → R
-back got refused (gives x c) = got x (lexer_of c)
-back got refused (refuses e c) = refused (refusal_back e)
+refusal-one : (e e' : Refusal) → refusal_of e ≡ refusal_of e' → e ≡ e'
+refusal-one e e' q = same refusal_of refusal_back refusal-back e e' q refl
 
-u8-back : (c : Lexer) (r : LexU8) → back U8.Got U8.Refused (u8_call c r) ≡ r
-u8-back c (U8.Got x d) = refl
-u8-back c (U8.Refused e) = ap U8.Refused (refusal-back e)
+-- where a value is told by what it stands for, so is an answer
+module _ {V A : Type 0} (value : V → A) (one : (x x' : V) → value x ≡ value x' → x ≡ x') (c : Lexer) where
+  reads : (r r' : Result (V × Lexer) Refusal) → read_call value c r ≡ read_call value c r' → r ≡ r'
+  reads (Ok (x, d)) (Ok (x', d')) p =
+      let v : value x ≡ value x' = cc in
+      let q : cursor_of d ≡ cursor_of d' = cc in
+      cc (one x x' v, new-one d d' q refl)
+  reads (Ok x) (Err e) p = cc
+  reads (Err e) (Ok x) p = cc
+  reads (Err e) (Err e') p = let q : refusal_of e ≡ refusal_of e' = cc in ap Err (refusal-one e e' q)
 
-pub u8-one : (c : Lexer) {a : Call ℕ} (r r' : LexU8) → u8_call c r ≡ a → u8_call c r' ≡ a → r ≡ r'
-u8-one c = same (u8_call c) (back U8.Got U8.Refused) (u8-back c)
+  pub read-one : {a : Call A} (r r' : Result (V × Lexer) Refusal) → read_call value c r ≡ a → read_call value c r' ≡ a → r ≡ r'
+  read-one r r' p q = reads r r' (p ∙ sym q)
 
-u16-back : (c : Lexer) (r : LexU16) → back U16.Got U16.Refused (u16_call c r) ≡ r
-u16-back c (U16.Got x d) = refl
-u16-back c (U16.Refused e) = ap U16.Refused (refusal-back e)
+  nexts : (r r' : Result (MayBe (V × Lexer)) Refusal) → next_call value c r ≡ next_call value c r' → r ≡ r'
+  nexts (Ok (Some (x, d))) (Ok (Some (x', d'))) p =
+      let v : value x ≡ value x' = cc in
+      let q : cursor_of d ≡ cursor_of d' = cc in
+      cc (one x x' v, new-one d d' q refl)
+  nexts (Ok (Some x)) (Ok None) p = cc
+  nexts (Ok (Some x)) (Err e) p = cc
+  nexts (Ok None) (Ok (Some x)) p = cc
+  nexts (Ok None) (Ok None) p = refl
+  nexts (Ok None) (Err e) p = cc
+  nexts (Err e) (Ok (Some x)) p = cc
+  nexts (Err e) (Ok None) p = cc
+  nexts (Err e) (Err e') p = let q : refusal_of e ≡ refusal_of e' = cc in ap Err (refusal-one e e' q)
 
-pub u16-one : (c : Lexer) {a : Call ℕ} (r r' : LexU16) → u16_call c r ≡ a → u16_call c r' ≡ a → r ≡ r'
-u16-one c = same (u16_call c) (back U16.Got U16.Refused) (u16-back c)
+  pub next-one : {a : Call (Option A)} (r r' : Result (MayBe (V × Lexer)) Refusal) → next_call value c r ≡ a → next_call value c r' ≡ a → r ≡ r'
+  next-one r r' p q = nexts r r' (p ∙ sym q)
 
-u32-back : (c : Lexer) (r : LexU32) → back U32.Got U32.Refused (u32_call c r) ≡ r
-u32-back c (U32.Got x d) = refl
-u32-back c (U32.Refused e) = ap U32.Refused (refusal-back e)
+  stays : (r r' : Result V Refusal) → staying_call value c r ≡ staying_call value c r' → r ≡ r'
+  stays (Ok x) (Ok x') p = let v : value x ≡ value x' = cc in ap Ok (one x x' v)
+  stays (Ok x) (Err e) p = cc
+  stays (Err e) (Ok x) p = cc
+  stays (Err e) (Err e') p = let q : refusal_of e ≡ refusal_of e' = cc in ap Err (refusal-one e e' q)
 
-pub u32-one : (c : Lexer) {a : Call ℕ} (r r' : LexU32) → u32_call c r ≡ a → u32_call c r' ≡ a → r ≡ r'
-u32-one c = same (u32_call c) (back U32.Got U32.Refused) (u32-back c)
+  pub staying-one : {a : Call A} (r r' : Result V Refusal) → staying_call value c r ≡ a → staying_call value c r' ≡ a → r ≡ r'
+  staying-one r r' p q = stays r r' (p ∙ sym q)
 
-u64-back : (c : Lexer) (r : LexU64) → back U64.Got U64.Refused (u64_call c r) ≡ r
-u64-back c (U64.Got x d) = refl
-u64-back c (U64.Refused e) = ap U64.Refused (refusal-back e)
+  options : (m m' : MayBe V) → option_as value m ≡ option_as value m' → m ≡ m'
+  options None None p = refl
+  options None (Some x) p = cc
+  options (Some x) None p = cc
+  options (Some x) (Some x') p = let v : value x ≡ value x' = cc in ap Some (one x x' v)
 
-pub u64-one : (c : Lexer) {a : Call ℕ} (r r' : LexU64) → u64_call c r ≡ a → u64_call c r' ≡ a → r ≡ r'
-u64-one c = same (u64_call c) (back U64.Got U64.Refused) (u64-back c)
+-- where it may be nothing
+pub option-one : {V A : Type 0} (value : V → A) → ((x x' : V) → value x ≡ value x' → x ≡ x') → (c : Lexer) {a : Call (Option A)} (r r' : Result (MayBe V) Refusal)
+    → staying_call (option_as value) c r ≡ a → staying_call (option_as value) c r' ≡ a → r ≡ r'
+option-one value one c = staying-one (option_as value) (options value one c) c
 
-i32-back : (c : Lexer) (r : LexI32) → back I32.Got I32.Refused (i32_call c r) ≡ r
-i32-back c (I32.Got x d) = refl
-i32-back c (I32.Refused e) = ap I32.Refused (refusal-back e)
+-- ---- the calls
 
-pub i32-one : (c : Lexer) {a : Call ℤ} (r r' : LexI32) → i32_call c r ≡ a → i32_call c r' ≡ a → r ≡ r'
-i32-one c = same (i32_call c) (back I32.Got I32.Refused) (i32-back c)
+plain : {A : Type 0} (x x' : A) → x ≡ x' → x ≡ x'
+plain x x' p = p
 
-i64-back : (c : Lexer) (r : LexI64) → back I64.Got I64.Refused (i64_call c r) ≡ r
-i64-back c (I64.Got x d) = refl
-i64-back c (I64.Refused e) = ap I64.Refused (refusal-back e)
+pub plain-one : {A : Type 0} (c : Lexer) {a : Call A} (r r' : Result (A × Lexer) Refusal) → read_call (λ x. x) c r ≡ a → read_call (λ x. x) c r' ≡ a → r ≡ r'
+plain-one = read-one (λ x. x) plain
 
-pub i64-one : (c : Lexer) {a : Call ℤ} (r r' : LexI64) → i64_call c r ≡ a → i64_call c r' ≡ a → r ≡ r'
-i64-one c = same (i64_call c) (back I64.Got I64.Refused) (i64-back c)
+ids : (x x' : LexemeId) → x.0 ≡ x'.0 → x ≡ x'
+ids x x' p = ap (λ i. record { 0 = i }) p
 
-bool-back : (c : Lexer) (r : LexBool) → back Truth.Got Truth.Refused (bool_call c r) ≡ r
-bool-back c (Truth.Got x d) = refl
-bool-back c (Truth.Refused e) = ap Truth.Refused (refusal-back e)
+pub id-one : (c : Lexer) {a : Call ℕ} (r r' : Result (LexemeId × Lexer) Refusal) → read_call (λ x. x.0) c r ≡ a → read_call (λ x. x.0) c r' ≡ a → r ≡ r'
+id-one = read-one (λ x. x.0) ids
 
-pub bool-one : (c : Lexer) {a : Call Bool} (r r' : LexBool) → bool_call c r ≡ a → bool_call c r' ≡ a → r ≡ r'
-bool-one c = same (bool_call c) (back Truth.Got Truth.Refused) (bool-back c)
+pub rgb-one : (c : Lexer) {a : Call Value} (r r' : Result (Rgb × Lexer) Refusal) → read_call colour_of c r ≡ a → read_call colour_of c r' ≡ a → r ≡ r'
+rgb-one = read-one colour_of colour-one
 
-id-back : (c : Lexer) (r : LexId) → back (λ x. Id.Got (record { 0 = x })) Id.Refused (id_call c r) ≡ r
-id-back c (Id.Got x d) = refl
-id-back c (Id.Refused e) = ap Id.Refused (refusal-back e)
+pub next-id-one : (c : Lexer) {a : Call (Option ℕ)} (r r' : Result (MayBe (LexemeId × Lexer)) Refusal) → next_call (λ x. x.0) c r ≡ a → next_call (λ x. x.0) c r' ≡ a → r ≡ r'
+next-id-one = next-one (λ x. x.0) ids
 
-pub id-one : (c : Lexer) {a : Call ℕ} (r r' : LexId) → id_call c r ≡ a → id_call c r' ≡ a → r ≡ r'
-id-one c = same (id_call c) (back (λ x. Id.Got (record { 0 = x })) Id.Refused) (id-back c)
+pub next-token-one : (c : Lexer) {a : Call (Option Token)} (r r' : Result (MayBe (Token × Lexer)) Refusal) → next_call (λ t. t) c r ≡ a → next_call (λ t. t) c r' ≡ a → r ≡ r'
+next-token-one = next-one (λ t. t) plain
 
-string-back : (c : Lexer) (r : LexString) → back String.Got String.Refused (string_call c r) ≡ r
-string-back c (String.Got x d) = refl
-string-back c (String.Refused e) = ap String.Refused (refusal-back e)
+pub peek-id-one : (c : Lexer) {a : Call (Option ℕ)} (r r' : Result (MayBe LexemeId) Refusal) → staying_call (option_as (λ x. x.0)) c r ≡ a → staying_call (option_as (λ x. x.0)) c r' ≡ a → r ≡ r'
+peek-id-one = option-one (λ x. x.0) ids
 
-pub string-one : (c : Lexer) {a : Call Text} (r r' : LexString) → string_call c r ≡ a → string_call c r' ≡ a → r ≡ r'
-string-one c = same (string_call c) (back String.Got String.Refused) (string-back c)
+pub peek-token-one : (c : Lexer) {a : Call (Option Token)} (r r' : Result (MayBe Token) Refusal) → staying_call (option_as (λ t. t)) c r ≡ a → staying_call (option_as (λ t. t)) c r' ≡ a → r ≡ r'
+peek-token-one = option-one (λ t. t) plain
 
-token_back_lem : (c : Lexer) (r : LexToken) → back Tok.Got Tok.Refused (token_call c r) ≡ r
-token_back_lem c (Tok.Got x d) = refl
-token_back_lem c (Tok.Refused e) = ap Tok.Refused (refusal-back e)
+pub position-one : (c : Lexer) {a : Call ℕ} (r r' : Result ℕ Refusal) → staying_call (λ p. p) c r ≡ a → staying_call (λ p. p) c r' ≡ a → r ≡ r'
+position-one = staying-one (λ p. p) plain
 
-pub token-one : (c : Lexer) {a : Call Token} (r r' : LexToken) → token_call c r ≡ a → token_call c r' ≡ a → r ≡ r'
-token-one c = same (token_call c) (back Tok.Got Tok.Refused) (token_back_lem c)
+pub find-one : (c : Lexer) {a : Call (Option ℕ)} (r r' : Result (MayBe ℕ) Refusal) → staying_call (option_as (λ p. p)) c r ≡ a → staying_call (option_as (λ p. p)) c r' ≡ a → r ≡ r'
+find-one = option-one (λ p. p) plain
 
--- a colour stands for a value of one case only, as in its leaf's answer
-colours : (c : Lexer) (r r' : LexRgb) → rgb_call c r ≡ rgb_call c r' → r ≡ r'
-colours c (Colour.Got x d) (Colour.Got x' d') p =
-    let v : colour_of x ≡ colour_of x' = cc in
-    let q : cursor_of d ≡ cursor_of d' = cc in
-    cc (colour-one x x' v, new-one d d' q refl)
-colours c (Colour.Got x d) (Colour.Refused e) p = cc
-colours c (Colour.Refused e) (Colour.Got x d) p = cc
-colours c (Colour.Refused e) (Colour.Refused e') p =
-    let q : refusal_of e ≡ refusal_of e' = cc in
-    ap Colour.Refused (same refusal_of refusal_back refusal-back e e' q refl)
+abbrev halted : Refusal → Lexer → Halt
+halted e d = record { refusal = e; next = d }
 
-pub rgb-one : (c : Lexer) {a : Call Value} (r r' : LexRgb) → rgb_call c r ≡ a → rgb_call c r' ≡ a → r ≡ r'
-rgb-one c r r' p q = colours c r r' (p ∙ sym q)
+lands : (r r' : Result Lexer Halt) → skip_call r ≡ skip_call r' → r ≡ r'
+lands (Ok d) (Ok d') p = let q : cursor_of d ≡ cursor_of d' = cc in ap Ok (new-one d d' q refl)
+lands (Ok d) (Err h) p = cc
+lands (Err h) (Ok d) p = cc
+lands (Err h) (Err h') p =
+    let e : refusal_of h.refusal ≡ refusal_of h'.refusal = cc in
+    let q : cursor_of h.next ≡ cursor_of h'.next = cc in
+    let x : h.refusal ≡ h'.refusal = refusal-one h.refusal h'.refusal e in
+    let y : h.next ≡ h'.next = new-one h.next h'.next q refl in
+    let z : halted h.refusal h.next ≡ halted h'.refusal h'.next = rw (x, y) in
+    ap Err z
 
-abbrev next_id_back : Call (Option ℕ) → NextId
-next_id_back (gives (some x) c) = NextI.Got (record { 0 = x }) (lexer_of c)
-next_id_back (gives none c) = NextI.Nothing
-next_id_back (refuses e c) = NextI.Refused (refusal_back e)
-
-next-id-back : (c : Lexer) (r : NextId) → next_id_back (next_id_call c r) ≡ r
-next-id-back c (NextI.Got x d) = refl
-next-id-back c NextI.Nothing = refl
-next-id-back c (NextI.Refused e) = ap NextI.Refused (refusal-back e)
-
-pub next-id-one : (c : Lexer) {a : Call (Option ℕ)} (r r' : NextId) → next_id_call c r ≡ a → next_id_call c r' ≡ a → r ≡ r'
-next-id-one c = same (next_id_call c) next_id_back (next-id-back c)
-
-abbrev peek_id_back : Call (Option ℕ) → PeekId
-peek_id_back (gives (some x) c) = PeekI.Got (record { 0 = x })
-peek_id_back (gives none c) = PeekI.Nothing
-peek_id_back (refuses e c) = PeekI.Refused (refusal_back e)
-
-peek-id-back : (c : Lexer) (r : PeekId) → peek_id_back (peek_id_call c r) ≡ r
-peek-id-back c (PeekI.Got x) = refl
-peek-id-back c PeekI.Nothing = refl
-peek-id-back c (PeekI.Refused e) = ap PeekI.Refused (refusal-back e)
-
-pub peek-id-one : (c : Lexer) {a : Call (Option ℕ)} (r r' : PeekId) → peek_id_call c r ≡ a → peek_id_call c r' ≡ a → r ≡ r'
-peek-id-one c = same (peek_id_call c) peek_id_back (peek-id-back c)
-
-abbrev next_token_back : Call (Option Token) → NextToken
-next_token_back (gives (some x) c) = NextT.Got x (lexer_of c)
-next_token_back (gives none c) = NextT.Nothing
-next_token_back (refuses e c) = NextT.Refused (refusal_back e)
-
-next-token-back : (c : Lexer) (r : NextToken) → next_token_back (next_token_call c r) ≡ r
-next-token-back c (NextT.Got x d) = refl
-next-token-back c NextT.Nothing = refl
-next-token-back c (NextT.Refused e) = ap NextT.Refused (refusal-back e)
-
-pub next-token-one : (c : Lexer) {a : Call (Option Token)} (r r' : NextToken) → next_token_call c r ≡ a → next_token_call c r' ≡ a → r ≡ r'
-next-token-one c = same (next_token_call c) next_token_back (next-token-back c)
-
-abbrev peek_token_back : Call (Option Token) → PeekToken
-peek_token_back (gives (some x) c) = PeekT.Got x
-peek_token_back (gives none c) = PeekT.Nothing
-peek_token_back (refuses e c) = PeekT.Refused (refusal_back e)
-
-peek-token-back : (c : Lexer) (r : PeekToken) → peek_token_back (peek_token_call c r) ≡ r
-peek-token-back c (PeekT.Got x) = refl
-peek-token-back c PeekT.Nothing = refl
-peek-token-back c (PeekT.Refused e) = ap PeekT.Refused (refusal-back e)
-
-pub peek-token-one : (c : Lexer) {a : Call (Option Token)} (r r' : PeekToken) → peek_token_call c r ≡ a → peek_token_call c r' ≡ a → r ≡ r'
-peek-token-one c = same (peek_token_call c) peek_token_back (peek-token-back c)
-
-abbrev position_back : Call ℕ → LexPosition
-position_back (gives p c) = Position.Got p
-position_back (refuses e c) = Position.Refused (refusal_back e)
-
-position-back : (c : Lexer) (r : LexPosition) → position_back (position_call c r) ≡ r
-position-back c (Position.Got p) = refl
-position-back c (Position.Refused e) = ap Position.Refused (refusal-back e)
-
-pub position-one : (c : Lexer) {a : Call ℕ} (r r' : LexPosition) → position_call c r ≡ a → position_call c r' ≡ a → r ≡ r'
-position-one c = same (position_call c) position_back (position-back c)
-
-abbrev find_back : Call (Option ℕ) → LexFind
-find_back (gives (some p) c) = Find.Found p
-find_back (gives none c) = Find.Absent
-find_back (refuses e c) = Find.Refused (refusal_back e)
-
-find-back : (c : Lexer) (r : LexFind) → find_back (find_call c r) ≡ r
-find-back c (Find.Found p) = refl
-find-back c Find.Absent = refl
-find-back c (Find.Refused e) = ap Find.Refused (refusal-back e)
-
-pub find-one : (c : Lexer) {a : Call (Option ℕ)} (r r' : LexFind) → find_call c r ≡ a → find_call c r' ≡ a → r ≡ r'
-find-one c = same (find_call c) find_back (find-back c)
-
-abbrev skip_back : Call (Unit {0}) → LexSkip
-skip_back (gives _ c) = Skip.Done (lexer_of c)
-skip_back (refuses e c) = Skip.Refused (refusal_back e) (lexer_of c)
-
-skip-back : (r : LexSkip) → skip_back (skip_call r) ≡ r
-skip-back (Skip.Done d) = refl
-skip-back (Skip.Refused e d) = ap (λ e. Skip.Refused e d) (refusal-back e)
-
-pub skip-one : {a : Call (Unit {0})} (r r' : LexSkip) → skip_call r ≡ a → skip_call r' ≡ a → r ≡ r'
-skip-one = same skip_call skip_back skip-back
+pub skip-one : {a : Call (Unit {0})} (r r' : Result Lexer Halt) → skip_call r ≡ a → skip_call r' ≡ a → r ≡ r'
+skip-one r r' p q = lands r r' (p ∙ sym q)

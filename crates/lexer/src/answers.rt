@@ -2,12 +2,10 @@
 ghost use Rattle.std.specs.Prelude.{◌≡◌};
 
 use crate::Lexer;
-use lexeme::LexemeId;
-use payload::{LexError, Rgb, Text};
-use token::Token;
+use payload::LexError;
 
 // Why a read is refused, and the position.
-#[derive(Clone, Copy)]
+#[derive(Clone, Copy, Debug, PartialEq, Eq)]
 pub struct LexerError {
     pub position: usize,
     pub kind: LexError,
@@ -37,126 +35,18 @@ impl LexerError {
 }
 
 // Why a call is refused: the read is, or the offset is too large or the cursor past the input.
-#[derive(Clone, Copy)]
+#[derive(Clone, Copy, Debug, PartialEq, Eq)]
 pub enum Refusal {
     Lexed(LexerError),
     BadPlace(usize),
 }
 
-#[derive(Clone, Copy)]
-pub enum LexU8 {
-    Got(u8, Lexer),
-    Refused(Refusal),
+// Why a skip is refused, and the cursor where it ended.
+#[derive(Clone, Copy, Debug, PartialEq, Eq)]
+pub struct Halt {
+    pub refusal: Refusal,
+    pub next: Lexer,
 }
 
-#[derive(Clone, Copy)]
-pub enum LexU16 {
-    Got(u16, Lexer),
-    Refused(Refusal),
-}
-
-#[derive(Clone, Copy)]
-pub enum LexU32 {
-    Got(u32, Lexer),
-    Refused(Refusal),
-}
-
-#[derive(Clone, Copy)]
-pub enum LexU64 {
-    Got(u64, Lexer),
-    Refused(Refusal),
-}
-
-#[derive(Clone, Copy)]
-pub enum LexI32 {
-    Got(i32, Lexer),
-    Refused(Refusal),
-}
-
-#[derive(Clone, Copy)]
-pub enum LexI64 {
-    Got(i64, Lexer),
-    Refused(Refusal),
-}
-
-#[derive(Clone, Copy)]
-pub enum LexBool {
-    Got(bool, Lexer),
-    Refused(Refusal),
-}
-
-#[derive(Clone, Copy)]
-pub enum LexId {
-    Got(LexemeId, Lexer),
-    Refused(Refusal),
-}
-
-#[derive(Clone, Copy)]
-pub enum LexString {
-    Got(Text, Lexer),
-    Refused(Refusal),
-}
-
-#[derive(Clone, Copy)]
-pub enum LexRgb {
-    Got(Rgb, Lexer),
-    Refused(Refusal),
-}
-
-#[derive(Clone, Copy)]
-pub enum LexToken {
-    Got(Token, Lexer),
-    Refused(Refusal),
-}
-
-// The next one, or nothing at the end.
-#[derive(Clone, Copy)]
-pub enum NextId {
-    Got(LexemeId, Lexer),
-    Nothing,
-    Refused(Refusal),
-}
-
-#[derive(Clone, Copy)]
-pub enum NextToken {
-    Got(Token, Lexer),
-    Nothing,
-    Refused(Refusal),
-}
-
-// What stands at the cursor, which stays.
-#[derive(Clone, Copy)]
-pub enum PeekId {
-    Got(LexemeId),
-    Nothing,
-    Refused(Refusal),
-}
-
-#[derive(Clone, Copy)]
-pub enum PeekToken {
-    Got(Token),
-    Nothing,
-    Refused(Refusal),
-}
-
-// The cursor's position in the file.
-#[derive(Clone, Copy)]
-pub enum LexPosition {
-    Got(usize),
-    Refused(Refusal),
-}
-
-// The cursor where a skip ended.
-#[derive(Clone, Copy)]
-pub enum LexSkip {
-    Done(Lexer),
-    Refused(Refusal, Lexer),
-}
-
-// Where a key stands, the first of its id.
-#[derive(Clone, Copy)]
-pub enum LexFind {
-    Found(usize),
-    Absent,
-    Refused(Refusal),
-}
+// What a read answers: a value and the next cursor.
+pub type Lexed<T> = Result<(T, Lexer), Refusal>;

@@ -14,26 +14,17 @@ ghost use Rattle.form.specs.Refusals.{refusal_at};
 ghost use Rattle.form.specs.Readers.{refused as refused_by};
 ghost use Rattle.form.specs.Calls.{cursor_in, at_start, moved_to, position_of, fits, within, positions, gives, reads};
 ghost use Rattle.payload.specs.Answers.{fault_of};
-ghost use Rattle.lexer.specs.Calls.{cursor_of, refusal_of, place_call, position_call, refused_call};
+ghost use Rattle.lexer.specs.Calls.{cursor_of, refusal_of, staying_call, refused_call};
+ghost use Rattle.lexer.specs.Twins.{Ended, next_of, peek_of};
 
-pub use crate::answers::{
-    LexBool, LexFind, LexI32, LexI64, LexId, LexPosition, LexRgb, LexSkip, LexString, LexToken,
-    LexU8, LexU16, LexU32, LexU64, LexerError, NextId, NextToken, PeekId, PeekToken, Refusal,
-};
+pub use crate::answers::{Halt, Lexed, LexerError, Refusal};
 use payload::LexError;
 
 // The place in the input where the next call begins, and the offset of the input's first byte in the file.
-#[derive(Clone, Copy)]
+#[derive(Clone, Copy, Debug, PartialEq, Eq)]
 pub struct Lexer {
     pub at: usize,
     pub offset: usize,
-}
-
-// Where a cursor stands: outside, with the refusal of every call from there.
-#[derive(Clone, Copy)]
-enum Place {
-    Inside,
-    Outside(Refusal),
 }
 
 impl Lexer {
@@ -52,14 +43,11 @@ impl Lexer {
     }
 
     // The position of the cursor in the file.
-    pub fn position(self, bytes: &[u8]) -> LexPosition
-        ensures { position_call self result ≡ positions bytes.now (cursor_of self) }
+    pub fn position(self, bytes: &[u8]) -> Result<usize, Refusal>
+        ensures { staying_call (λ p. p) self result ≡ positions bytes.now (cursor_of self) }
     {
-        let p = self.place(bytes);
-        match p {
-            Place::Inside => LexPosition::Got(self.position_in_file()),
-            Place::Outside(e) => LexPosition::Refused(e),
-        }
+        self.place(bytes)?;
+        Ok(self.position_in_file())
     }
 
     // The same, of a cursor that is known to have one.
@@ -94,18 +82,18 @@ impl Lexer {
         self.fits(bytes) && self.at == bytes.len()
     }
 
-    // Whether the cursor is a place of the input.
-    fn place(self, bytes: &[u8]) -> Place
-        ensures { place_call self result ≡ within bytes.now (cursor_of self) (gives tt (cursor_of self)) }
+    // Whether the cursor is a place of the input: outside every call is refused.
+    fn place(self, bytes: &[u8]) -> Result<(), Refusal>
+        ensures { staying_call (λ x. x) self result ≡ within bytes.now (cursor_of self) (gives tt (cursor_of self)) }
     {
         let at = self.at;
         if !self.fits(bytes) {
-            return Place::Outside(Refusal::BadPlace(self.offset));
+            return Err(Refusal::BadPlace(self.offset));
         }
         if at <= bytes.len() {
-            Place::Inside
+            Ok(())
         } else {
-            Place::Outside(Refusal::BadPlace(at))
+            Err(Refusal::BadPlace(at))
         }
     }
 
@@ -122,10 +110,47 @@ impl Lexer {
     fn refused(self, bytes: &[u8], e: LexError) -> Refusal
         ensures { refused_call self result ≡ reads (λ _ _. refused_by (fault_of e)) bytes.now (cursor_of self) }
     {
-        let p = self.place(bytes);
-        match p {
-            Place::Inside => self.located(e),
-            Place::Outside(r) => r,
+        match self.place(bytes) {
+            Ok(()) => self.located(e),
+            Err(r) => r,
         }
+    }
+
+    // What a call answers whose read has this answer at the cursor: an offset that is too large is refused first, whatever the read found. It
+    // is small, so that it is compiled into each call.
+    fn ended<T: Copy, E: Copy>(self, bytes: &[u8], read: Result<(T, usize), E>) -> Lexed<T>
+    where
+        LexError: From<E>,
+        ensures { Ended (⟦<LexError as From<E>>⟧.from_gives) bytes.now self read result }
+    {
+        if !self.fits(bytes) {
+            return Err(Refusal::BadPlace(self.offset));
+        }
+        match read {
+            Ok((x, next)) => Ok((x, self.moved(next))),
+            Err(e) => Err(self.refused(bytes, LexError::from(e))),
+        }
+    }
+
+    // The next one, by what its read answers: nothing at the end.
+    fn next<T: Copy>(self, bytes: &[u8], read: Lexed<T>) -> Result<Option<(T, Lexer)>, Refusal>
+        ensures { result ≡ next_of (fits bytes.now (cursor_of self) && eqb (cursor_of self).at (length bytes.now)) read }
+    {
+        match read {
+            Ok(found) => Ok(Some(found)),
+            Err(_) if self.ends(bytes) => Ok(None),
+            Err(e) => Err(e),
+        }
+    }
+}
+
+// What a peek answers, by what its read answers: nothing where a fault was found.
+fn peeked<T: Copy>(read: Lexed<T>) -> Result<Option<T>, Refusal>
+    ensures { result ≡ peek_of read }
+{
+    match read {
+        Ok((x, _)) => Ok(Some(x)),
+        Err(Refusal::Lexed(_)) => Ok(None),
+        Err(Refusal::BadPlace(p)) => Err(Refusal::BadPlace(p)),
     }
 }

@@ -1,43 +1,38 @@
 // Bytes of the input that are handed back as they stand.
 ghost use Rattle.std.specs.Prelude.{◌≡◌};
 ghost use Rattle.form.specs.Calls.{reads};
-ghost use Rattle.lexer.specs.Calls.{cursor_of, bytes_at, remainder_of, string_call, given_part};
+ghost use Rattle.lexer.specs.Calls.{cursor_of, bytes_at, remainder_of, read_call, given_part};
 
-use crate::answers::LexString;
-use crate::{Lexer, Place};
-use payload::{LexError, ReadString, Text};
+use crate::Lexer;
+use crate::answers::Lexed;
+use payload::Text;
 
 impl Lexer {
     // The place of the bytes that are left.
-    pub fn remainder(self, bytes: &[u8]) -> LexString
-        ensures { string_call self result ≡ remainder_of bytes.now (cursor_of self) }
+    pub fn remainder(self, bytes: &[u8]) -> Lexed<Text>
+        ensures { read_call (λ t. t) self result ≡ remainder_of bytes.now (cursor_of self) }
     {
-        let at = self.at;
-        let p = self.place(bytes);
-        match p {
-            Place::Inside => {
-                let len = bytes.len() - at;
-                LexString::Got(Text { start: at, len }, self)
-            }
-            Place::Outside(e) => LexString::Refused(e),
-        }
+        self.place(bytes)?;
+        let start = self.at;
+        let len = bytes.len() - start;
+        Ok((Text { start, len }, self))
     }
 
     // The place of the next bytes, so many.
-    pub fn read_bytes(self, bytes: &[u8], count: usize) -> LexString
-        ensures { string_call self result ≡ reads (bytes_at count) bytes.now (cursor_of self) }
+    pub fn read_bytes(self, bytes: &[u8], count: usize) -> Lexed<Text>
+        ensures { read_call (λ t. t) self result ≡ reads (bytes_at count) bytes.now (cursor_of self) }
     {
-        let at = self.at;
-        let p = self.place(bytes);
-        match p {
-            Place::Inside => {
-                let r = payload::read_bytes(bytes, at, count);
-                let ReadString::Got(x, next) = r else {
-                    return LexString::Refused(self.located(LexError::Eof(r.missing())));
-                };
-                LexString::Got(x, self.moved(next))
-            }
-            Place::Outside(e) => LexString::Refused(e),
+        self.place(bytes)?;
+        self.ended(bytes, payload::read_bytes(bytes, self.at, count))
+    }
+
+    // The bytes whose place a call gave; none where it is refused.
+    fn part(self, bytes: &[u8], read: Lexed<Text>) -> &[u8]
+        ensures { result.now ≡ given_part bytes.now (read_call (λ t. t) self read) }
+    {
+        match read {
+            Ok((text, _)) => token::text_part(bytes, text),
+            Err(_) => &bytes[..0],
         }
     }
 
@@ -45,21 +40,13 @@ impl Lexer {
     pub fn remainder_part(self, bytes: &[u8]) -> &[u8]
         ensures { result.now ≡ given_part bytes.now (remainder_of bytes.now (cursor_of self)) }
     {
-        let r = self.remainder(bytes);
-        match r {
-            LexString::Got(x, _) => token::text_part(bytes, x),
-            LexString::Refused(_) => &bytes[..0],
-        }
+        self.part(bytes, self.remainder(bytes))
     }
 
     // The next bytes, so many; none where they are refused.
     pub fn read_bytes_part(self, bytes: &[u8], count: usize) -> &[u8]
         ensures { result.now ≡ given_part bytes.now (reads (bytes_at count) bytes.now (cursor_of self)) }
     {
-        let r = self.read_bytes(bytes, count);
-        match r {
-            LexString::Got(x, _) => token::text_part(bytes, x),
-            LexString::Refused(_) => &bytes[..0],
-        }
+        self.part(bytes, self.read_bytes(bytes, count))
     }
 }

@@ -3,7 +3,7 @@ use Prim.Native.Nat.{ℕ, ◌+◌, ◌-◌, ◌≤◌}
 use native.Mathlib.Nat.{zero-add, add-zero, add_assoc}
 use native.Mathlib.Omega.{arith}
 use mathlib.Core.Path.{◌≡◌, refl, sym, ap, ◌∙◌}
-use mathlib.Core.Bool.{Bool, true, false, ◌&&◌}
+use mathlib.Core.Bool.{Bool, true, false, not, ◌&&◌}
 use mathlib.Core.Option.{some}
 use mathlib.Core.List.{List, [], ◌∷◌}
 use lib.Dec.{eqb}
@@ -22,6 +22,21 @@ use Rattle.token.specs.declared.Token.TheVariants as T
 use Rattle.token.specs.contracts.Token.{the_type}
 use Rattle.listing.specs.declared.tally.Tally.{Tally}
 use Rattle.listing.specs.Tallies.{none_yet, tallied, counted, Sound}
+
+-- the derived default has counted nothing
+pub default-none : (c : Tally)
+    → (c.tokens ≡ 0) × ((c.containers ≡ 0) × ((c.keys ≡ 0) × ((c.strays ≡ 0) × ((c.depth ≡ 0) × ((c.equal ≡ false) × ((c.value ≡ false) × (c.candidate ≡ false)))))))
+    → c ≡ none_yet
+default-none c e = λ i. record {
+  tokens = e.0 i;
+  containers = e.1.0 i;
+  keys = e.1.1.0 i;
+  strays = e.1.1.1.0 i;
+  depth = e.1.1.1.1.0 i;
+  equal = e.1.1.1.1.1.0 i;
+  value = e.1.1.1.1.1.1.0 i;
+  candidate = e.1.1.1.1.1.1.1 i;
+}
 
 -- what has been counted, and what is still to be counted
 abbrev pub total : Tally → Walk → Counts
@@ -110,16 +125,11 @@ sound-step c v s = record {
 
 -- ---- the tally by the code's arms
 
--- Open makes a key of a candidate that is no value
-pub open-value : (b value : Bool) → value ≡ true → false ≡ (b && makes_key value (some Open))
+-- Open makes a key of what is no value
+pub open-makes : (value : Bool) → not value ≡ makes_key value (some Open)
 unfolding makes_key is_open is_equal kind
-open-value true value h = rw h
-open-value false value h = refl
-
-pub open-key : (b value : Bool) → value ≡ false → b ≡ (b && makes_key value (some Open))
-unfolding makes_key is_open is_equal kind
-open-key true value h = rw h
-open-key false value h = refl
+open-makes true = refl
+open-makes false = refl
 
 -- Equal of any, and no other token of one
 equal-key : (value : Bool) → makes_key value (some Equal) ≡ true

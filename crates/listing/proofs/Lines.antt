@@ -11,28 +11,8 @@ use Rattle.laws.proofs.TextsLast.{own_text, Last, Ends}
 use Rattle.payload.specs.Answers.{text_of}
 use Rattle.payload.specs.Texts.{part_of}
 use Rattle.payload.proofs.Texts.{within}
-use Rattle.token.specs.Tokens.{token_of}
-use Rattle.token.specs.declared.Token.{Token}
-use Rattle.token.specs.declared.Token.TheVariants as T
-use Rattle.listing.specs.Shapes.{shape_words, shown_as, line_of}
-
--- a name is no longer than the bytes that it stands in
-pub short : (t : Token) → (shown_as t).len ≤ length (shown_as t).name
-short T.Open = omega arith
-short T.Close = omega arith
-short T.Equal = omega arith
-short (T.U32 n) = omega arith
-short (T.U64 n) = omega arith
-short (T.I32 z) = omega arith
-short (T.Bool b) = omega arith
-short (T.Quoted t) = omega arith
-short (T.Unquoted t) = omega arith
-short (T.F32 n) = omega arith
-short (T.F64 n) = omega arith
-short (T.Rgb c) = omega arith
-short (T.I64 z) = omega arith
-short (T.Lookup n) = omega arith
-short (T.Id i) = omega arith
+use Rattle.token.specs.Tokens.{token_of, value_of}
+use Rattle.listing.specs.Words.{name_of, value_words, line_of}
 
 -- the text of a token that ends at place e
 text-is : (s t : List ℕ) (e : ℕ) → Last s t e → e ≤ length s → part_of s (text_of e t) ≡ t
@@ -41,8 +21,8 @@ text-is s t e k h =
     let q : e - length t + length t ≤ length s = omega arith in
     rw (within s (text_of e t) q) k.last
 
-pub line-is : (s : List ℕ) (p e : ℕ) (v : F.Value) → Ends s v e → e ≤ length s → line_of s p (shown_as (token_of e v)) ≡ token_line p v
-unfolding line_of token_line token_of name shown shape_words own_text
+pub line-is : (s : List ℕ) (p e : ℕ) (v : F.Value) → Ends s v e → e ≤ length s → line_of s p (token_of e v) ≡ token_line p v
+unfolding line_of token_line token_of value_of name_of name shown value_words own_text
 line-is s p e F.Open k h = refl
 line-is s p e F.Close k h = refl
 line-is s p e F.Equal k h = refl

@@ -14,7 +14,7 @@ use Rattle.token.specs.declared.Token.{Token}
 use Rattle.token.proofs.Walks.{Read, token-read, token-is}
 use Rattle.listing.specs.declared.tally.Tally.{Tally}
 use Rattle.listing.specs.Tallies.{none_yet, TalliesTo, counted}
-use Rattle.listing.specs.Shapes.{shown_as, line_of}
+use Rattle.listing.specs.Words.{line_of}
 use Rattle.listing.proofs.Counting.{total, total-step, total-none, total-done}
 use Rattle.listing.proofs.Lines.{line-is}
 
@@ -32,12 +32,12 @@ rest_end s p c h = rw (from_end s p h) (ap (end_line (length s)) (total-done c))
 
 -- where a token was read it is its line and then the rest
 pub rest-token : (s : List ℕ) (p : ℕ) {t : Token} {n : ℕ} (c : Tally) {c' : Tally} → token_at s p ≡ found t n → TalliesTo c t c'
-    → rest s p c ≡ line_of s p (shown_as t) ++ rest s n c'
+    → rest s p c ≡ line_of s p t ++ rest s n c'
 unfolding rest lines_of
 rest-token s p {t} {n} c {c'} e a =
     let v = value_of s t in
     let r : Read s p v n = token-read s p e in
-    let l : line_of s p (shown_as t) ≡ token_line p v = ap (λ (x : Token). line_of s p (shown_as x)) (token-is s p e) ∙ line-is s p n v r.ends r.there in
+    let l : line_of s p t ≡ token_line p v = ap (λ (x : Token). line_of s p x) (token-is s p e) ∙ line-is s p n v r.ends r.there in
     rw (r.walks, l, a s) (ap (λ (x : Counts). token_line p v ++ lines_of (end_line (length s) x) (from s n)) (total-step c p (n - p) v (from s n)))
 
 -- and where it was refused the line of that

@@ -1,10 +1,14 @@
 -- What the answer of the code stands for.
-use Rattle.form.specs.Refusals.{NoRoom, TooLong}
-use Rattle.form.specs.Writing.{Outcome, wrote, declined}
-use Rattle.listing.specs.declared.Listed.{Listed}
-use Rattle.listing.specs.declared.Listed.TheVariants as L
+use Rattle.std.specs.Prelude.{ℕ, Result}
+use Rattle.form.specs.Refusals as F
+use Rattle.form.specs.Writing.{Outcome}
+use Rattle.payload.specs.Answers.{outcome_as}
+use Rattle.listing.specs.declared.ListError.{ListError}
+use Rattle.listing.specs.declared.ListError.TheVariants.{NoRoom, TooLong}
 
-abbrev pub listed_outcome : Listed → Outcome
-listed_outcome (L.Written n) = wrote n
-listed_outcome (L.NoRoom n) = declined (NoRoom n)
-listed_outcome (L.TooLong n) = declined (TooLong n)
+abbrev pub list_refusal : ListError → F.Refusal
+list_refusal (NoRoom n) = F.NoRoom n
+list_refusal (TooLong n) = F.TooLong n
+
+abbrev pub listed_outcome : Result ℕ ListError → Outcome
+listed_outcome = outcome_as list_refusal

@@ -1,3 +1,3 @@
 pub mod Answers
 pub mod Tallies
-pub mod Shapes
+pub mod Words

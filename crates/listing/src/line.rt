@@ -1,121 +1,91 @@
 // The line of a token.
-ghost use Rattle.std.specs.Prelude.{◌≡◌};
+ghost use Rattle.std.specs.Prelude.{◌≡◌, ◌∷◌};
 ghost use Rattle.form.specs.Ascii.{spaced};
-ghost use Rattle.form.specs.Listing.{alpha_words};
-ghost use Rattle.payload.specs.Answers.{alpha_of};
-ghost use Rattle.form.specs.Put.{Put};
-ghost use Rattle.listing.specs.Shapes.{shape_words, colour_words, shown_as, line_of};
+ghost use Rattle.text.specs.Puts.{Puts};
+ghost use Rattle.listing.specs.Words.{name_of, value_words, colour_words, line_of};
 
-use payload::{Alpha, Rgb, Text};
-use text::{put, put_decimal, put_le, put_number, put_signed, put_text, put_truth, put_word};
+use payload::Rgb;
+use text::Printer;
 use token::Token;
 
-// What shows a value.
-#[derive(Clone, Copy)]
-enum Shape {
-    Nothing,
-    Number(u64),
-    Signed(i64),
-    Truth(bool),
-    Text(Text),
-    Bytes(usize, u64),
-    Colour(Rgb),
-}
-
-// The name of a kind, in the first bytes of eight, and what shows the value.
-#[derive(Clone, Copy)]
-struct Shown {
-    pub name: [u8; 8],
-    pub len: usize,
-    pub shape: Shape,
-}
-
-fn named(name: [u8; 8], len: usize, shape: Shape) -> Shown
-    ensures { result ≡ record { name = name; len = len; shape = shape } }
-{
-    Shown { name, len, shape }
-}
-
-fn shown_as(t: Token) -> Shown
-    ensures { result ≡ shown_as t }
+// The name of a token's kind.
+fn name(t: Token) -> &'static [u8]
+    ensures { result.now ≡ name_of t }
 {
     match t {
-        Token::Open => named(*b"open    ", 4, Shape::Nothing),
-        Token::Close => named(*b"close   ", 5, Shape::Nothing),
-        Token::Equal => named(*b"equal   ", 5, Shape::Nothing),
-        Token::U32(x) => named(*b"u32     ", 3, Shape::Number(x as u64)),
-        Token::U64(x) => named(*b"u64     ", 3, Shape::Number(x)),
-        Token::I32(x) => named(*b"i32     ", 3, Shape::Signed(x as i64)),
-        Token::Bool(b) => named(*b"bool    ", 4, Shape::Truth(b)),
-        Token::Quoted(t) => named(*b"quoted  ", 6, Shape::Text(t)),
-        Token::Unquoted(t) => named(*b"unquoted", 8, Shape::Text(t)),
-        Token::F32(x) => named(*b"f32     ", 3, Shape::Bytes(4, x as u64)),
-        Token::F64(x) => named(*b"f64     ", 3, Shape::Bytes(8, x)),
-        Token::Rgb(c) => named(*b"rgb     ", 3, Shape::Colour(c)),
-        Token::I64(x) => named(*b"i64     ", 3, Shape::Signed(x)),
-        Token::Lookup(x) => named(*b"lookup  ", 6, Shape::Number(x as u64)),
-        Token::Id(x) => named(*b"id      ", 2, Shape::Number(x as u64)),
+        Token::Open => b"open",
+        Token::Close => b"close",
+        Token::Equal => b"equal",
+        Token::U32(_) => b"u32",
+        Token::U64(_) => b"u64",
+        Token::I32(_) => b"i32",
+        Token::Bool(_) => b"bool",
+        Token::Quoted(_) => b"quoted",
+        Token::Unquoted(_) => b"unquoted",
+        Token::F32(_) => b"f32",
+        Token::F64(_) => b"f64",
+        Token::Rgb(_) => b"rgb",
+        Token::I64(_) => b"i64",
+        Token::Lookup(_) => b"lookup",
+        Token::Id(_) => b"id",
     }
 }
 
-fn put_alpha(out: &mut [u8], at: usize, a: Alpha) -> usize
-    ensures { Put out.old at (spaced (alpha_words (alpha_of a))) out.new result }
+// The channels of a colour.
+fn put_colour(p: &mut Printer<'_>, c: Rgb)
+    ensures { Puts p.old p.new (spaced (colour_words c)) }
 {
-    match a {
-        Alpha::Absent => at,
-        Alpha::Given(x) => put_number(out, at, x as u64),
+    p.put_number(u64::from(c.r));
+    p.put_number(u64::from(c.g));
+    p.put_number(u64::from(c.b));
+    if let Some(a) = c.a {
+        p.put_number(u64::from(a));
     }
 }
 
-fn put_colour(out: &mut [u8], at: usize, c: Rgb) -> usize
-    ensures { Put out.old at (spaced (colour_words c)) out.new result }
+// The name of a token's kind and what shows its value, each with a space in front.
+fn put_words(p: &mut Printer<'_>, bytes: &[u8], t: Token)
+    ensures { Puts p.old p.new (spaced (name_of t ∷ value_words bytes.now t)) }
 {
-    let red = c.r as u64;
-    let green = c.g as u64;
-    let blue = c.b as u64;
-    let a = c.a;
-    let first = put_number(out, at, red);
-    let second = put_number(out, first, green);
-    let third = put_number(out, second, blue);
-    put_alpha(out, third, a)
-}
-
-fn put_shape(out: &mut [u8], at: usize, bytes: &[u8], shape: Shape) -> usize
-    ensures { Put out.old at (spaced (shape_words bytes.now shape)) out.new result }
-{
-    match shape {
-        Shape::Nothing => at,
-        Shape::Number(x) => put_number(out, at, x),
-        Shape::Signed(x) => {
-            let next = put(out, at, b' ');
-            put_signed(out, next, x)
+    p.put_word(name(t));
+    match t {
+        Token::Open | Token::Close | Token::Equal => {}
+        Token::U32(x) | Token::Lookup(x) => p.put_number(u64::from(x)),
+        Token::U64(x) => p.put_number(x),
+        Token::Id(x) => p.put_number(u64::from(x)),
+        Token::I32(x) => {
+            p.put(b' ');
+            p.put_signed(i64::from(x));
         }
-        Shape::Truth(b) => {
-            let next = put(out, at, b' ');
-            put_truth(out, next, b)
+        Token::I64(x) => {
+            p.put(b' ');
+            p.put_signed(x);
         }
-        Shape::Text(t) => {
-            let next = put(out, at, b' ');
-            put_text(out, next, token::text_part(bytes, t))
+        Token::Bool(b) => {
+            p.put(b' ');
+            p.put_truth(b);
         }
-        Shape::Bytes(width, x) => {
-            let next = put(out, at, b' ');
-            put_le(out, next, width, x)
+        Token::Quoted(text) | Token::Unquoted(text) => {
+            p.put(b' ');
+            p.put_text(token::text_part(bytes, text));
         }
-        Shape::Colour(c) => put_colour(out, at, c),
+        Token::F32(x) => {
+            p.put(b' ');
+            p.put_le(4, u64::from(x));
+        }
+        Token::F64(x) => {
+            p.put(b' ');
+            p.put_le(8, x);
+        }
+        Token::Rgb(c) => put_colour(p, c),
     }
 }
 
-// The line of the token t at position p.
-pub(crate) fn put_line(out: &mut [u8], at: usize, bytes: &[u8], p: usize, t: Token) -> usize
-    ensures { Put out.old at (line_of bytes.now p (shown_as t)) out.new result }
+// The line of the token t at a position.
+pub(crate) fn put_line(p: &mut Printer<'_>, bytes: &[u8], at: usize, t: Token)
+    ensures { Puts p.old p.new (line_of bytes.now at t) }
 {
-    let what = shown_as(t);
-    let name = what.name;
-    let len = what.len;
-    let shape = what.shape;
-    let placed = put_decimal(out, at, p as u64);
-    let named = put_word(out, placed, &name[..len]);
-    let valued = put_shape(out, named, bytes, shape);
-    put(out, valued, b'\n')
+    p.put_decimal(at as u64);
+    put_words(p, bytes, t);
+    p.put(b'\n');
 }

@@ -4,13 +4,13 @@ ghost use Rattle.std.proofs.Math.Option.{some};
 ghost use Rattle.form.specs.Numbers.{MAX};
 ghost use Rattle.form.specs.Values.{Open};
 ghost use Rattle.form.specs.Keys.{makes_key};
-ghost use Rattle.listing.specs.Tallies.{Sound, none_yet, TalliesTo};
+ghost use Rattle.listing.specs.Tallies.{Sound, TalliesTo};
 
 use token::Token;
 
 // What has been counted up to a place, and the depth there; of the token before it, whether it is Equal, whether it is itself directly after an
 // Equal, and whether what follows can make a key of it.
-#[derive(Clone, Copy)]
+#[derive(Clone, Copy, Default)]
 pub(crate) struct Tally {
     pub tokens: usize,
     pub containers: usize,
@@ -23,29 +23,11 @@ pub(crate) struct Tally {
 }
 
 impl Tally {
-    pub(crate) fn new() -> Tally
-        ensures { result ≡ none_yet }
-    {
-        Tally {
-            tokens: 0,
-            containers: 0,
-            keys: 0,
-            strays: 0,
-            depth: 0,
-            equal: false,
-            value: false,
-            candidate: false,
-        }
-    }
-
     // Whether Open makes a key of the token before it.
     fn bracketed(self) -> bool
         ensures { result ≡ (self.candidate && makes_key self.value (some Open)) }
     {
-        if self.value {
-            return false;
-        }
-        self.candidate
+        self.candidate && !self.value
     }
 
     // The tally after one more token.

@@ -4,40 +4,14 @@ use native.Mathlib.Omega.{arith}
 use mathlib.Core.Path.{◌≡◌, refl, sym, ap, ◌∙◌}
 use mathlib.Core.Option.{Option, none, some}
 use mathlib.Core.List.{List, [], ◌∷◌, ◌++◌}
-use mathlib.Core.Logic.{⊎_elim}
 use lib.ListN.{length}
 use borrow.Author.Tests.{le-leb, lt-leb}
-use denote.Enum.Declared.{tag_of}
-use types.Run.{OneOf}
 use Rattle.form.specs.Refusals as R
 use Rattle.form.specs.Saves.{walk, LIMIT}
 use Rattle.form.specs.Writing.{Output, written, unwritten, Outcome, wrote, declined, outcome, leaves, Follows, fitted, first_refusal, unless}
 use Rattle.laws.proofs.Never.{never}
-use Rattle.normaliser.specs.declared.Normalised.{Normalised}
-use Rattle.normaliser.specs.declared.Normalised.TheVariants.{Written, Eof, InvalidRgb, WideLookup, NoRoom, TooLong}
-use Rattle.normaliser.specs.declared.shortening.Shortened.{Shortened}
-use Rattle.normaliser.specs.declared.shortening.Shortened.TheVariants as S
-use Rattle.normaliser.specs.contracts.Normalised as N
-use Rattle.normaliser.specs.contracts.shortening.Shortened as H
-use Rattle.normaliser.specs.Answers.{normalised_outcome, shortened_outcome}
 use Rattle.normaliser.specs.Stretches.{Style, styled, saved, unbounded, Passed}
 use Rattle.normaliser.proofs.Passing.{unbounded-none}
-
--- the refusals among the answers
-pub normalised-refused : (r : Normalised) → OneOf (1 ∷ 2 ∷ 3 ∷ 4 ∷ 5 ∷ []) (tag_of N.the_type r) → (n : ℕ) → normalised_outcome r ≡ wrote n → ⊥
-normalised-refused (Written m) q n e = ⊎_elim (λ h. omega arith) (⊎_elim (λ h. omega arith) (⊎_elim (λ h. omega arith) (⊎_elim (λ h. omega arith) (λ h. omega arith)))) q
-normalised-refused (Eof p m) q n e = never (cc)
-normalised-refused (InvalidRgb p) q n e = never (cc)
-normalised-refused (WideLookup p) q n e = never (cc)
-normalised-refused (NoRoom m) q n e = never (cc)
-normalised-refused (TooLong m) q n e = never (cc)
-
-pub shortened-refused : (r : Shortened) → OneOf (1 ∷ 2 ∷ 3 ∷ 4 ∷ []) (tag_of H.the_type r) → (n : ℕ) → shortened_outcome r ≡ wrote n → ⊥
-shortened-refused (S.Written m) q n e = ⊎_elim (λ h. omega arith) (⊎_elim (λ h. omega arith) (⊎_elim (λ h. omega arith) (λ h. omega arith))) q
-shortened-refused (S.Eof p m) q n e = never (cc)
-shortened-refused (S.InvalidRgb p) q n e = never (cc)
-shortened-refused (S.NoRoom m) q n e = never (cc)
-shortened-refused (S.TooLong m) q n e = never (cc)
 
 -- an output of no bytes keeps none
 none_before : (xs d : List ℕ) → length xs ≡ 0 → xs ++ d ≡ d
@@ -61,12 +35,12 @@ module _ (y : Style) (s d xs : List ℕ) {a : Outcome} (l : length s ≤ LIMIT) 
   limited = rw (le-leb (length s) LIMIT l)
 
   -- a refusal other than these two does not depend on the room
-  pub measured-refused : ((n : ℕ) → a ≡ wrote n → ⊥) → Follows (saved y (length d) s) a d (xs ++ d)
+  pub measured-refused : {r : R.Refusal} → a ≡ declined r → Follows (saved y (length d) s) a d (xs ++ d)
   unfolding unbounded unless outcome leaves
   measured-refused k = rw limited (go (first_refusal y.why (walk s)) e)
     where
       go : (o : Option R.Refusal) → a ≡ outcome (unless o (written (styled y s))) → Follows (unless o (fitted (length d) (styled y s))) a d (xs ++ d)
-      go none e = absurd (k _ e)
+      go none e = never (cc)
       go (some why) e = record { answer = e; output = kept }
 
   module _ {n : ℕ} (w : a ≡ wrote n) where

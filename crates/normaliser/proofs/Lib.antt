@@ -1,3 +1,4 @@
+pub mod Taken
 pub mod Joining
 pub mod Spelled
 pub mod Steps
@@ -7,6 +8,7 @@ pub mod Choosing
 pub mod Unique
 pub mod Clean
 pub mod Readable
+pub mod Narrow
 pub mod Reached
 pub mod Saving
 pub mod Spans

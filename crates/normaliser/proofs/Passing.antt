@@ -22,12 +22,8 @@ use Rattle.form.specs.Writing.{written, unwritten, Outcome, wrote, outcome, leav
 use Rattle.laws.proofs.Never.{never}
 use Rattle.laws.proofs.Puts.{put_then, put-none, put_front}
 use Rattle.writer.specs.Layouts.{id_number}
-use Rattle.normaliser.specs.declared.Normalised.{Normalised}
-use Rattle.normaliser.specs.declared.Respelled.{Respelled}
-use Rattle.normaliser.specs.declared.Respelled.TheVariants.{To, Refused}
-use Rattle.normaliser.specs.Answers.{normalised_outcome}
-use Rattle.normaliser.specs.Stretches.{Style, normal_style, styled, unbounded, Passed, before, Spells, Placed, Respelt, Respells, Stopped, Appends}
-use Rattle.normaliser.specs.Spellings.{SpeltToken, Stand}
+use Rattle.normaliser.specs.Stretches.{Style, normal_style, styled, unbounded, Passed, before, Spells, Placed, Respelt, Stopped, Appends}
+use Rattle.normaliser.specs.Spellings.{Stand}
 use Rattle.normaliser.proofs.Joining.{rest-start, rest_end, spells-none, spells_then}
 
 -- ---- bytes into a part of the output
@@ -144,22 +140,20 @@ going-stopped {y} {s} {i = i} g k d' =
 
 -- ---- in normal form, by what the code knows
 
-module _ {s d₀ d d' : List ℕ} {i need : ℕ} {x : Respelled} (g : Going normal_style s d₀ d i need) (r : Respells s i d need d' x) where
-  pub stopped : {why : Normalised} → x ≡ Refused why → Passed normal_style s d₀ d' (normalised_outcome why)
-  stopped q = going-stopped g (rw q at r) d'
-
-  pub turned : {q n : ℕ} → x ≡ To q n → (i < q) × Going normal_style s d₀ d' q (need + n)
-  turned {q} {n} e = let t : Respelt normal_style s i q n d need d' = rw e at r in (t.more, went_on g t.spells t.appends)
+-- a token is spelled anew
+pub turned : {s d₀ d d' : List ℕ} {i need q n : ℕ} → Going normal_style s d₀ d i need → Respelt normal_style s i q n d need d'
+    → (i < q) × Going normal_style s d₀ d' q (need + n)
+turned g t = (t.more, went_on g t.spells t.appends)
 
 -- a run can be copied
 pub run-there : {s d₀ d : List ℕ} {i need e : ℕ} → Going normal_style s d₀ d i need → Stand s i e → length s ≤ LIMIT → (i ≤ e) × (e ≤ length s) × (need + (e - i) ≤ MAX)
 run-there g h l = (h.on, h.there, omega (arith, g.appends.count, g.spells.short, h.on, h.there))
 
-module _ {s d₀ d d' : List ℕ} {i need q r : ℕ} (x : ℕ) (g : Going normal_style s d₀ d i need) where
-  pub float-on : SpeltToken s i q (spell (F.F64 x)) → Appends d need (id_number 0x0167 8 x) d' r → Going normal_style s d₀ d' q r
-  unfolding spell tag body entries table kind le_bytes
-  float-on t a = went_on g t.1 a
+-- the spelling of a float, and of a lookup
+pub float_same : (x : ℕ) → id_number 0x0167 8 x ≡ spell (F.F64 x)
+unfolding spell tag body entries table kind le_bytes
+float_same x = refl
 
-  pub lookup-on : SpeltToken s i q (spell (F.Lookup x)) → Appends d need (id_number 0x0d41 3 x) d' r → Going normal_style s d₀ d' q r
-  unfolding spell tag body entries table kind le_bytes
-  lookup-on t a = went_on g t.1 a
+pub lookup_same : (x : ℕ) → id_number 0x0d41 3 x ≡ spell (F.Lookup x)
+unfolding spell tag body entries table kind le_bytes
+lookup_same x = refl

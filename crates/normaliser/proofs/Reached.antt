@@ -2,7 +2,7 @@
 use Prim.Native.Nat.{ℕ, ◌+◌, ◌-◌, ◌*◌, ◌≤◌}
 use native.Mathlib.Nat.{zero-add, add_assoc}
 use native.Mathlib.Omega.{arith}
-use mathlib.Core.Path.{◌≡◌, refl, sym, ap, subst, ◌∙◌}
+use mathlib.Core.Path.{◌≡◌, refl, sym, ap, ◌∙◌}
 use mathlib.Core.Bool.{Bool, true, false, ◌&&◌}
 use mathlib.Core.List.{List, [], ◌++◌, append-nil, append_assoc}
 use lib.ListN.{length, drop}
@@ -11,7 +11,7 @@ use borrow.Author.Tests.{ne_eqb, ltb-true, ltb-false}
 use Rattle.form.specs.Numbers.{pick, le_bytes, MAX}
 use Rattle.form.specs.Values.{Value, Open, Close, kind}
 use Rattle.form.specs.Refusals.{Fault}
-use Rattle.form.specs.Readers.{Answer, refused, at, placed}
+use Rattle.form.specs.Readers.{refused, at, placed}
 use Rattle.form.specs.Reading.{token}
 use Rattle.form.specs.Spelling.{bit, tag, body, spell}
 use Rattle.form.specs.Saves.{Walk, then, from, values, spell_all}
@@ -25,8 +25,6 @@ use Rattle.token.specs.Tokens.{token_of, token_at}
 use Rattle.token.proofs.Walks.{Read, token-refused}
 use Rattle.writer.specs.Layouts.{id_number}
 use Rattle.normaliser.specs.Stretches.{between, Appends}
-use Rattle.normaliser.specs.Passings.{Told}
-use Rattle.normaliser.specs.declared.telling.Passed.{Passed}
 use Rattle.normaliser.specs.Rescues.{ToCome, to_come, behind, ToStray, ToEnd}
 use Rattle.normaliser.proofs.Passing.{appends-none, appends-then}
 use Rattle.normaliser.proofs.Joining.{between_none, between-then}
@@ -144,10 +142,6 @@ at-end {s} {p₀} {p} {d} h e = record {
   is = h.is ∙ ap (behind (between s p₀ p) 0) (ends_there s d p e) ∙ ap (λ (bs : List ℕ). record { kept = bs; strays = 0; deep = d; end = p }) (append-nil (between s p₀ p));
 }
 
--- what is known of a token
-pub known : {a : Answer Value} {r t : Passed} → Told a r → r ≡ t → Told a t
-known {a} h e = subst (Told a) e h
-
 -- ---- the Closes
 
 -- one more after so many
@@ -156,10 +150,6 @@ unfolding closes spell_all spell le_bytes tag body
 one_more j p q = rw (closes-add j 1) (appends-then p q)
 
 -- none yet
-pub no-close : (d : List ℕ) (need k : ℕ) → length d ≤ MAX → Appends d need (closes (k - k)) d need
+pub no-close : (d : List ℕ) (need : ℕ) → length d ≤ MAX → Appends d need (closes 0) d need
 unfolding closes spell_all
-no-close d need k m = let e : k - k ≡ 0 = omega arith in rw e (appends-none d need m)
-
--- none left
-pub all-put : (k left : ℕ) {d d' : List ℕ} {need r : ℕ} → Appends d need (closes (k - left)) d' r → left ≤ 0 → Appends d need (closes k) d' r
-all-put k left a h = let e : k - left ≡ k = omega arith in rw e at a
+no-close d need m = appends-none d need m

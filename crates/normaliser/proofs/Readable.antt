@@ -11,9 +11,9 @@ use Rattle.form.specs.Writing.{Output, written, unwritten, wrote, outcome, leave
 use Rattle.laws.proofs.Never.{never}
 use Rattle.laws.proofs.Shortened.{shortened-length}
 use Rattle.laws.proofs.Normalising.{whole-fits, shortened-whole}
-use Rattle.normaliser.specs.declared.shortening.Shortened.{Shortened}
-use Rattle.normaliser.specs.declared.shortening.Shortened.TheVariants.{Written}
-use Rattle.normaliser.specs.Answers.{shortened_outcome}
+use Rattle.std.specs.Prelude.{Result, Ok}
+use Rattle.normaliser.specs.declared.NormalError.{NormalError}
+use Rattle.normaliser.specs.Answers.{normalised_outcome}
 use Rattle.normaliser.proofs.Unique.{shorten-one}
 
 -- no longer than the limit, bytes, and read to the end
@@ -23,12 +23,12 @@ pub record Readable (s : List ℕ) : Type 0 where
   pub ends : T (whole (walk s))
 
 -- d is the output before the call and d' after it, and r what is answered
-pub record Writes (s d d' : List ℕ) (r : Shortened) : Type 0 where
-  pub answer : r ≡ Written (length (shortened s))
+pub record Writes (s d d' : List ℕ) (r : Result ℕ NormalError) : Type 0 where
+  pub answer : r ≡ Ok (length (shortened s))
   pub output : d' ≡ shortened s ++ drop (length (shortened s)) d
   pub short : length (shortened s) ≤ length s
 
-module _ {s d d' : List ℕ} (r : Shortened) (f : Follows (shorten (length d) s) (shortened_outcome r) d d') where
+module _ {s d d' : List ℕ} (r : Result ℕ NormalError) (f : Follows (shorten (length d) s) (normalised_outcome r) d d') where
   -- whatever meets the promise of `shorten` writes exactly the shortest spelling of such a save, no longer than the save, where there is room
   pub readable-written : Readable s → length (shortened s) ≤ length d → Writes s d d' r
   unfolding outcome leaves
@@ -42,9 +42,9 @@ module _ {s d d' : List ℕ} (r : Shortened) (f : Follows (shorten (length d) s)
   readable-fits k h = readable-written k (omega (arith, shortened-length s k.bytes k.ends))
 
   -- and it writes nothing but that
-  pub written-readable : {n : ℕ} → Bytes s → r ≡ Written n → Readable s × (length (shortened s) ≤ length d)
+  pub written-readable : {n : ℕ} → Bytes s → r ≡ Ok n → Readable s × (length (shortened s) ≤ length d)
   unfolding outcome
-  written-readable {n} b q = go (shorten (length d) s) refl (sym (ap shortened_outcome q) ∙ f.answer)
+  written-readable {n} b q = go (shorten (length d) s) refl (sym (ap normalised_outcome q) ∙ f.answer)
     where
       go : (o : Output) → shorten (length d) s ≡ o → wrote n ≡ outcome o → Readable s × (length (shortened s) ≤ length d)
       go (written bs) e h = let k = shortened-whole e in (record { limit = k.limit; bytes = b; ends = k.ends }, k.fits)

@@ -4,13 +4,11 @@ use native.Mathlib.Omega.{arith}
 use mathlib.Core.Path.{◌≡◌, refl, sym, ap, ◌∙◌}
 use mathlib.Core.Bool.{Bool, true, false}
 use mathlib.Core.Option.{none, some}
-use mathlib.Core.List.{List, [], ◌∷◌}
-use mathlib.Core.Logic.{⊎_elim}
+use Rattle.std.specs.Prelude.{Result, Ok, Err, None, Some}
+use mathlib.Core.List.{List}
 use lib.ListN.{length, get_or}
 use mir.Syntax.{w8}
 use mir.Val.{Fits}
-use denote.Enum.Declared.{tag_of}
-use types.Run.{OneOf}
 use Rattle.form.specs.Numbers.{pick, MAX}
 use Rattle.form.specs.Values.{Value}
 use Rattle.form.specs.Refusals as R
@@ -18,42 +16,34 @@ use Rattle.form.specs.Readers.{found, refused}
 use Rattle.form.specs.Spelling.{spell, wide}
 use Rattle.form.specs.Shortest.{shortest}
 use Rattle.form.specs.Saves.{Walk, cut}
-use Rattle.form.specs.Writing.{Output, unwritten, Outcome, wrote, declined, outcome, leaves, Follows, fitted, first_refusal, unless}
+use Rattle.form.specs.Writing.{Output, unwritten, Outcome, declined, outcome, leaves, Follows, fitted, first_refusal, unless}
 use Rattle.laws.proofs.Never.{never}
 use Rattle.laws.proofs.LittleEndian.{bytes-all}
 use Rattle.token.specs.declared.Token.{Token}
 use Rattle.token.specs.Tokens.{value_of, token_at}
 use Rattle.token.proofs.Walks.{Read, token-read, token-refused}
-use Rattle.writer.specs.declared.Wrote.{Wrote}
-use Rattle.writer.specs.declared.Wrote.TheVariants as W
-use Rattle.writer.specs.contracts.Wrote.{the_type}
+use Rattle.writer.specs.declared.WriteError.{WriteError}
+use Rattle.writer.specs.declared.WriteError.TheVariants as W
 use Rattle.writer.specs.Writes.{write_token, write_shortest_token, wrote_outcome}
 use Rattle.writer.proofs.Fitting.{fitted-written, fitted-refused}
-use Rattle.normaliser.specs.Stretches.{Style, normal_style, short_style, output_of, Placed, Appends, Respelt, Stopped, HasSpelling}
+use Rattle.normaliser.specs.Stretches.{Style, normal_style, short_style, output_of, Placed, Appends, count_of, Respelt, Stopped, HasSpelling}
 use Rattle.normaliser.proofs.Joining.{rest_from}
 use Rattle.normaliser.proofs.Steps.{read-reason, read-spells, token-writes, short-spells, spellable-writes}
 use Rattle.normaliser.proofs.Passing.{part, back, appends, Going, went_on}
 
--- ---- the writer's answer for bytes
+-- ---- the writer's answer for bytes: it counts them, where they fit and where they don't
 
 no-room-same : {m n : ℕ} → R.NoRoom m ≡ R.NoRoom n → m ≡ n
 no-room-same e = cc
 
 module _ (room : ℕ) (bs : List ℕ) where
-  fits-written : {n : ℕ} → wrote n ≡ outcome (fitted room bs) → n ≡ length bs
-  fits-written e = (fitted-written room bs e).0
-
-  fits-counted : {n : ℕ} → declined (R.NoRoom n) ≡ outcome (fitted room bs) → n ≡ length bs
-  fits-counted e = no-room-same (fitted-refused room bs e).0
-
-  -- none of the others
-  fits-otherwise : (x : Wrote) → wrote_outcome x ≡ outcome (fitted room bs) → OneOf (2 ∷ 1 ∷ 3 ∷ 5 ∷ []) (tag_of the_type x) → ⊥
-  fits-otherwise (W.Written n) e q = ⊎_elim (λ h. omega arith) (⊎_elim (λ h. omega arith) (⊎_elim (λ h. omega arith) (λ h. omega arith))) q
-  fits-otherwise (W.NoRoom n) e q = ⊎_elim (λ h. omega arith) (⊎_elim (λ h. omega arith) (⊎_elim (λ h. omega arith) (λ h. omega arith))) q
-  fits-otherwise (W.LongString p) e q = let f : R.LongString p ≡ R.NoRoom (length bs) = (fitted-refused room bs e).0 in never (cc)
-  fits-otherwise (W.WideLookup p) e q = let f : R.WideLookup p ≡ R.NoRoom (length bs) = (fitted-refused room bs e).0 in never (cc)
-  fits-otherwise (W.ReservedId p) e q = let f : R.ReservedId p ≡ R.NoRoom (length bs) = (fitted-refused room bs e).0 in never (cc)
-  fits-otherwise (W.BadPlace p) e q = let f : R.BadPlace p ≡ R.NoRoom (length bs) = (fitted-refused room bs e).0 in never (cc)
+  fits-count : (x : Result ℕ WriteError) → wrote_outcome x ≡ outcome (fitted room bs) → count_of x ≡ Some (length bs)
+  fits-count (Ok n) e = ap Some (fitted-written room bs e).0
+  fits-count (Err (W.NoRoom n)) e = ap Some (no-room-same (fitted-refused room bs e).0)
+  fits-count (Err (W.LongString p)) e = let f : R.LongString p ≡ R.NoRoom (length bs) = (fitted-refused room bs e).0 in never (cc)
+  fits-count (Err (W.WideLookup p)) e = let f : R.WideLookup p ≡ R.NoRoom (length bs) = (fitted-refused room bs e).0 in never (cc)
+  fits-count (Err (W.ReservedId p)) e = let f : R.ReservedId p ≡ R.NoRoom (length bs) = (fitted-refused room bs e).0 in never (cc)
+  fits-count (Err (W.BadPlace p)) e = let f : R.BadPlace p ≡ R.NoRoom (length bs) = (fitted-refused room bs e).0 in never (cc)
 
 -- they are counted and put after so many others of the output d
 appended : {o : Output} {a : Outcome} {d bs ys : List ℕ} {need at n : ℕ} → length d ≤ MAX → Placed need (length d) at → Follows o a (part d at) ys
@@ -65,20 +55,26 @@ appended {d = d} {at = at} m p f e k = appends m p (f.output ∙ ap (λ (x : Out
 abbrev judged : Bool → ℕ → List ℕ → Output
 judged w room bs = unless (pick w (some (R.WideLookup 0)) none) (fitted room bs)
 
-is-written : (w : Bool) (room : ℕ) (bs : List ℕ) {n : ℕ} → wrote n ≡ outcome (judged w room bs) → (w ≡ false) × (n ≡ length bs)
-unfolding outcome unless
-is-written true room bs e = never (cc)
-is-written false room bs e = (refl, fits-written room bs e)
+some-same : {m n : ℕ} → Some m ≡ Some n → m ≡ n
+some-same e = cc
 
-is-counted : (w : Bool) (room : ℕ) (bs : List ℕ) {n : ℕ} → declined (R.NoRoom n) ≡ outcome (judged w room bs) → (w ≡ false) × (n ≡ length bs)
+is-count : (w : Bool) (room : ℕ) (bs : List ℕ) (x : Result ℕ WriteError) → wrote_outcome x ≡ outcome (judged w room bs) → count_of x ≡ pick w None (Some (length bs))
 unfolding outcome unless
-is-counted true room bs e = never (cc)
-is-counted false room bs e = (refl, fits-counted room bs e)
+is-count true room bs (Ok n) e = never (cc)
+is-count true room bs (Err (W.NoRoom n)) e = never (cc)
+is-count true room bs (Err (W.LongString p)) e = refl
+is-count true room bs (Err (W.WideLookup p)) e = refl
+is-count true room bs (Err (W.ReservedId p)) e = refl
+is-count true room bs (Err (W.BadPlace p)) e = refl
+is-count false room bs x e = fits-count room bs x e
 
-is_wide : (w : Bool) (room : ℕ) (bs : List ℕ) (x : Wrote) → wrote_outcome x ≡ outcome (judged w room bs) → OneOf (2 ∷ 1 ∷ 3 ∷ 5 ∷ []) (tag_of the_type x) → w ≡ true
-unfolding unless
-is_wide true room bs x e q = refl
-is_wide false room bs x e q = absurd (fits-otherwise room bs x e q)
+some-narrow : (w : Bool) {n m : ℕ} → Some n ≡ pick w None (Some m) → (w ≡ false) × (n ≡ m)
+some-narrow true e = never (cc)
+some-narrow false e = (refl, cc)
+
+none-wide : (w : Bool) (m : ℕ) → None ≡ pick w None (Some m) → w ≡ true
+none-wide true m e = refl
+none-wide false m e = never (cc)
 
 -- what the writer does with it in a part of the output
 abbrev doing : List ℕ → List ℕ → ℕ → Token → Output
@@ -108,36 +104,30 @@ module _ (s : List ℕ) (b : (j : ℕ) → Fits w8 (get_or s j 0)) (i : ℕ) {t 
     appends = appended m p f (writes (length (part d at)) ∙ ap (λ (w : Bool). judged w (length (part d at)) (spell v)) k.0) k.1;
   }
 
-  module _ {y : Wrote} {d ys : List ℕ} {need at : ℕ} (m : length d ≤ MAX) (p : Placed need (length d) at) (f : Follows (doing s d at t) (wrote_outcome y) (part d at) ys) where
-    pub next-written : {n : ℕ} → y ≡ W.Written n → Respelt normal_style s i next n d need (back d at ys)
-    next-written q = respelt m p f (is-written _ _ _ (ap wrote_outcome (sym q) ∙ said f))
+  module _ (y : Result ℕ WriteError) (d : List ℕ) {ys : List ℕ} {need at : ℕ} (m : length d ≤ MAX) (p : Placed need (length d) at)
+      (f : Follows (doing s d at t) (wrote_outcome y) (part d at) ys) where
+    counts : count_of y ≡ pick (wide v) None (Some (length (spell v)))
+    counts = is-count (wide v) _ (spell v) y (said f)
 
-    pub next-counted : {n : ℕ} → y ≡ W.NoRoom n → Respelt normal_style s i next n d need (back d at ys)
-    next-counted q = respelt m p f (is-counted _ _ _ (ap wrote_outcome (sym q) ∙ said f))
+    pub next-counted : {n : ℕ} → count_of y ≡ Some n → Respelt normal_style s i next n d need (back d at ys)
+    next-counted q = respelt m p f (some-narrow (wide v) (sym q ∙ counts))
 
-  -- or it cannot
-  pub next-wide : (y : Wrote) {d d' : List ℕ} → Follows (write_token (length d) s t) (wrote_outcome y) d d' → OneOf (2 ∷ 1 ∷ 3 ∷ 5 ∷ []) (tag_of the_type y)
-      → Stopped normal_style s i (declined (R.WideLookup i))
-  unfolding output_of first_refusal unless
-  next-wide y f q =
-      let w : wide v ≡ true = is_wide _ _ _ y (said f) q in
-      record { why = R.WideLookup i; is = rest_from normal_style s i ∙ ap (output_of normal_style) r.walks ∙ rw (read-reason (bytes-all s b) r i, w); answer = refl }
+    -- or it cannot
+    pub next-wide : count_of y ≡ None → Stopped normal_style s i (declined (R.WideLookup i))
+    unfolding output_of first_refusal unless
+    next-wide q =
+        let w : wide v ≡ true = none-wide (wide v) _ (sym q ∙ counts) in
+        record { why = R.WideLookup i; is = rest_from normal_style s i ∙ ap (output_of normal_style) r.walks ∙ rw (read-reason (bytes-all s b) r i, w); answer = refl }
 
 -- ---- a token that has a shortest spelling
 
-module _ {s : List ℕ} {t : Token} (x : Wrote) (d : List ℕ) {ys : List ℕ} {need at : ℕ} (k : HasSpelling short_style s t) (m : length d ≤ MAX) (p : Placed need (length d) at)
+module _ {s : List ℕ} {t : Token} (x : Result ℕ WriteError) (d : List ℕ) {ys : List ℕ} {need at : ℕ} (k : HasSpelling short_style s t) (m : length d ≤ MAX) (p : Placed need (length d) at)
     (f : Follows (write_shortest_token (length (part d at)) s t) (wrote_outcome x) (part d at) ys) where
-  fits : wrote_outcome x ≡ outcome (fitted (length (part d at)) (shortest (value_of s t)))
-  fits = f.answer ∙ ap outcome (spellable-writes k (length (part d at)))
+  pub short-count : count_of x ≡ Some (length (shortest (value_of s t)))
+  short-count = fits-count (length (part d at)) (shortest (value_of s t)) x (f.answer ∙ ap outcome (spellable-writes k (length (part d at))))
 
-  pub short-written : {n : ℕ} → x ≡ W.Written n → Appends d need (shortest (value_of s t)) (back d at ys) (need + n)
-  short-written q = appended m p f (spellable-writes k _) (fits-written _ _ (ap wrote_outcome (sym q) ∙ fits))
-
-  pub short-counted : {n : ℕ} → x ≡ W.NoRoom n → Appends d need (shortest (value_of s t)) (back d at ys) (need + n)
-  short-counted q = appended m p f (spellable-writes k _) (fits-counted _ _ (ap wrote_outcome (sym q) ∙ fits))
-
-  pub short-otherwise : OneOf (2 ∷ 1 ∷ 3 ∷ 5 ∷ []) (tag_of the_type x) → ⊥
-  short-otherwise q = fits-otherwise _ _ x fits q
+  pub short-appends : {n : ℕ} → count_of x ≡ Some n → Appends d need (shortest (value_of s t)) (back d at ys) (need + n)
+  short-appends q = appended m p f (spellable-writes k _) (some-same (sym q ∙ short-count))
 
 -- and one that was read is what the pass goes on by
 pub short_on : {s : List ℕ} (b : (j : ℕ) → Fits w8 (get_or s j 0)) {d₀ d d' : List ℕ} {i need next n : ℕ} {t : Token} → token_at s i ≡ found t next
@@ -150,6 +140,5 @@ gives_cut : (y : Style) {w : Walk} {r : R.Refusal} → w ≡ cut r → output_of
 unfolding output_of first_refusal unless
 gives_cut y e = rw e
 
-pub next-refused : {y : Style} {s : List ℕ} {i : ℕ} {e : R.Fault} {a : Outcome} → i < length s → token_at s i ≡ refused e → a ≡ declined (R.refusal_at i e)
-    → Stopped y s i a
-next-refused {y} {s} {i} {e} l p q = record { why = R.refusal_at i e; is = rest_from y s i ∙ gives_cut y (token-refused s i l p); answer = q }
+pub next-refused : {y : Style} {s : List ℕ} {i p : ℕ} {e : R.Fault} → i < length s → p ≡ i → token_at s i ≡ refused e → Stopped y s i (declined (R.refusal_at p e))
+next-refused {y} {s} {i} {p} {e} l k q = record { why = R.refusal_at i e; is = rest_from y s i ∙ gives_cut y (token-refused s i l q); answer = ap (λ (j : ℕ). declined (R.refusal_at j e)) k }

@@ -17,7 +17,7 @@ use Rattle.laws.proofs.Walking.{from_start}
 use Rattle.laws.proofs.Puts.{put_front}
 use Rattle.normaliser.specs.declared.rescuing.Ending.{Ending}
 use Rattle.normaliser.specs.declared.rescuing.Ending.TheVariants.{Stray, End}
-use Rattle.normaliser.specs.declared.rescuing.Survey.{Survey}
+use Rattle.normaliser.specs.declared.rescuing.Rescued.{Rescued}
 use Rattle.normaliser.specs.Answers.{report_of}
 use Rattle.normaliser.specs.Stretches.{between, Appends}
 use Rattle.normaliser.specs.Rescues.{ToCome, to_come, behind, ToStray, ToEnd, Stretches, Surveyed, Needs}
@@ -76,7 +76,7 @@ module _ {s d₀ d : List ℕ} {i need k : ℕ} {e : Ending} (g : Saving s d₀ 
   all-kept {q} {n} t = g.is ∙ ap (behind g.done k) t.is ∙ ap (λ (j : ℕ). record { kept = g.done ++ between s i q; strays = j; deep = n; end = q }) (add-zero k)
 
   pub saved : {q n r r' : ℕ} {d₁ d₂ : List ℕ} → length d₀ ≤ MAX → e ≡ End q n → Appends d need (between s i q) d₁ r → Appends d₁ r (closes n) d₂ r'
-      → Surveyed s d₀ d₂ (record { need = r'; report = record { cut = length s - q; strays = k; closes = n } })
+      → Surveyed s d₀ d₂ (record { written = r'; report = record { cut = length s - q; strays = k; closes = n } })
   unfolding rescued report tokens leaves
   saved {q} {n} m h a b =
       let t = all-kept (end-ahead h) in
@@ -111,7 +111,7 @@ module _ (s d : List ℕ) (l : length s ≤ LIMIT) {n : ℕ} (m : Needs s (lengt
       let e : rescue (length d) s ≡ unwritten (NoRoom n) = rw (le-leb (length s) LIMIT l, lt-leb (length (rescued s)) (length d) (omega arith), q) in
       (by-output e refl, rw e)
 
-  pub rescue-fits : n ≤ length d → {d' : List ℕ} {r : Survey} → Surveyed s d d' r → Follows (rescue (length d) s) (wrote r.need) d d' × (some (report_of r.report) ≡ told (length d) s)
+  pub rescue-fits : n ≤ length d → {d' : List ℕ} {r : Rescued} → Surveyed s d d' r → Follows (rescue (length d) s) (wrote r.written) d d' × (some (report_of r.report) ≡ told (length d) s)
   unfolding rescue told if_written fitted outcome
   rescue-fits h p =
       let f = m.fits h in

@@ -11,6 +11,7 @@ use lib.Dec.{leb, lit<}
 use borrow.Author.Tests.{lt-leb, lt-ltb}
 use mir.Syntax.{w8}
 use mir.Val.{Fits}
+use Rattle.std.specs.Prelude.{Option, None, Some}
 use Rattle.form.specs.Numbers.{le}
 use Rattle.form.specs.Values as F
 use Rattle.form.specs.Values.{kind}
@@ -27,11 +28,9 @@ use Rattle.laws.proofs.Standing.{KeptNumber, KeptText, KeptColour, number-stands
 use Rattle.token.proofs.Walks.{read}
 use Rattle.laws.proofs.Never.{never}
 use Rattle.normaliser.specs.declared.spelling.Spelling.{Spelling}
-use Rattle.normaliser.specs.declared.spelling.Spelling.TheVariants.{Stands, F64, Lookup, Otherwise}
-use Rattle.normaliser.specs.declared.spelling.Run.{Run}
-use Rattle.normaliser.specs.declared.spelling.Run.TheVariants as R
-use Rattle.normaliser.specs.Stretches.{between}
-use Rattle.normaliser.specs.Spellings.{Below, Within, Floats, Indexes, SpeltToken, Spelt, Stand, Ran}
+use Rattle.normaliser.specs.declared.spelling.Spelling.TheVariants.{Stands, Number}
+use Rattle.normaliser.specs.declared.spelling.Number.TheVariants.{F64, Lookup}
+use Rattle.normaliser.specs.Spellings.{Below, Within, Floats, Indexes, SpeltToken, Spelt, Stand}
 use Rattle.normaliser.proofs.Joining.{spells_then, spells-none, between-then, between_none}
 use Rattle.normaliser.proofs.Steps.{read-spells}
 
@@ -79,7 +78,7 @@ module _ (s : List ℕ) (b : (j : ℕ) → Fits w8 (get_or s j 0)) (p : ℕ) whe
   token-spells : {v : F.Value} {n : ℕ} → at token s p ≡ found v n → wide v ≡ false → SpeltToken s p n (spell v)
   token-spells e w = let r = read s p e in (r.on, read-spells (bytes-all s b) r w)
 
-  stands : {n : ℕ} → Standing.Stands (drop p s) n → Spelt s p (Stands (p + n))
+  stands : {n : ℕ} → Standing.Stands (drop p s) n → Spelt s p (Some (Stands (p + n)))
   unfolding at further
   stands {n} k = let less : p + n - p ≡ n = omega arith in rw (less, ← k.same) (token-spells (ap (further p) k.read) k.narrow)
 
@@ -88,11 +87,10 @@ module _ (s : List ℕ) (b : (j : ℕ) → Fits w8 (get_or s j 0)) (p : ℕ) whe
     after = ap (λ (k : ℕ). drop k s) (took 2 s p e).next ∙ sym (drop-drop 2 p s)
 
     -- as it stands, by the number after its id
-    pub number-arm : {w m : ℕ} → KeptNumber w m i → (r : Spelling) → Below m w s next r → Spelt s p r
-    number-arm k Otherwise h = tt
-    number-arm k (F64 x q) h = absurd h
-    number-arm k (Lookup x q) h = absurd h
-    number-arm {w} {m} k (Stands q) h =
+    pub number-arm : {w m : ℕ} → KeptNumber w m i → (r : Option Spelling) → Below m w s next r → Spelt s p r
+    number-arm k None h = tt
+    number-arm k (Some (Number x q)) h = absurd h
+    number-arm {w} {m} k (Some (Stands q)) h =
         let a = took 2 s p e in
         let c = took w s next h.2 in
         let ends : q ≡ p + (2 + w) = omega (arith, a.next, c.next) in
@@ -100,50 +98,48 @@ module _ (s : List ℕ) (b : (j : ℕ) → Fits w8 (get_or s j 0)) (p : ℕ) whe
         (stands (number-stands (drop p s) (drop-bytes p s (bytes-all s b)) a.there (rw a.value at k) (rw after at c.there) (rw (c.value, after) at h.1)))
 
     -- by the text
-    pub text-arm : KeptText i → (r : Spelling) → Within string s next r → Spelt s p r
-    text-arm k Otherwise h = tt
-    text-arm k (F64 x q) h = absurd h
-    text-arm k (Lookup x q) h = absurd h
-    text-arm k (Stands q) h =
+    pub text-arm : KeptText i → (r : Option Spelling) → Within string s next r → Spelt s p r
+    text-arm k None h = tt
+    text-arm k (Some (Number x q)) h = absurd h
+    text-arm k (Some (Stands q)) h =
         let a = took 2 s p e in
         let c = text-length s next h.1 in
         let ends : q ≡ p + (2 + (2 + le (take 2 (drop 2 (drop p s))))) = rw after at c.ends ∙ omega (arith, a.next) in
         rw ends (stands (text-stands (drop p s) (drop-bytes p s (bytes-all s b)) a.there (rw a.value at k) (rw after at c.there) (rw after at c.fits)))
 
     -- by the colour
-    pub colour-arm : KeptColour i → (r : Spelling) → Within rgb s next r → Spelt s p r
-    colour-arm k Otherwise h = tt
-    colour-arm k (F64 x q) h = absurd h
-    colour-arm k (Lookup x q) h = absurd h
-    colour-arm k (Stands q) h =
+    pub colour-arm : KeptColour i → (r : Option Spelling) → Within rgb s next r → Spelt s p r
+    colour-arm k None h = tt
+    colour-arm k (Some (Number x q)) h = absurd h
+    colour-arm k (Some (Stands q)) h =
         let a = took 2 s p e in
         let c = ended rgb s next h.1 in
         let on : q ≡ p + (2 + c.size) = omega (arith, a.next, c.ends) in
         rw on (stands (colour-stands (drop p s) (drop-bytes p s (bytes-all s b)) a.there (rw a.value at k) (rw after at c.read)))
 
     -- by nothing
-    pub alone-arm : alone i ≡ true → Spelt s p (Stands next)
+    pub alone-arm : alone i ≡ true → Spelt s p (Some (Stands next))
     unfolding le
-    alone-arm h = number-arm (alone-kept i h) (Stands next) (0, lit< tt, num-there 0 s next zero-le ∙ ap (found 0) (add-zero next))
+    alone-arm h = number-arm (alone-kept i h) (Some (Stands next)) (0, lit< tt, num-there 0 s next zero-le ∙ ap (found 0) (add-zero next))
 
     -- otherwise, by the value of the number after its id
     value-spells : {w x q : ℕ} {f : ℕ → F.Value} → T.after i ≡ number w f → at (num w) s next ≡ found x q → wide (f x) ≡ false → SpeltToken s p q (spell (f x))
     unfolding payload mapped
     value-spells {w} {x} {q} {f} k h n = token-spells (by-id s p e k ∙ at-giving (num w) f s next ∙ ap (mapped f) h) n
 
-    pub lookup-arm : {w : ℕ} → T.after i ≡ number w F.Lookup → (r : Spelling) → Indexes (at (num w) s next) r → Spelt s p r
+    pub lookup-arm : {w : ℕ} → T.after i ≡ number w F.Lookup → (r : Option Spelling) → Indexes (at (num w) s next) r → Spelt s p r
     unfolding wide kind reason writable
-    lookup-arm k Otherwise h = tt
-    lookup-arm k (Stands q) h = absurd h
-    lookup-arm k (F64 x q) h = absurd h
-    lookup-arm k (Lookup x q) h = value-spells k h.1 (rw (lt-ltb x (2 ^ 24) h.0))
+    lookup-arm k None h = tt
+    lookup-arm k (Some (Stands q)) h = absurd h
+    lookup-arm k (Some (Number (F64 x) q)) h = absurd h
+    lookup-arm k (Some (Number (Lookup x) q)) h = value-spells k h.1 (rw (lt-ltb x (2 ^ 24) h.0))
 
-    pub float-arm : {w : ℕ} (g : ℕ → ℕ) → T.after i ≡ number w (λ n. F.F64 (g n)) → (r : Spelling) → Floats (mapped g (at (num w) s next)) r → Spelt s p r
+    pub float-arm : {w : ℕ} (g : ℕ → ℕ) → T.after i ≡ number w (λ n. F.F64 (g n)) → (r : Option Spelling) → Floats (mapped g (at (num w) s next)) r → Spelt s p r
     unfolding wide kind mapped
-    float-arm g k Otherwise h = tt
-    float-arm g k (Stands q) h = absurd h
-    float-arm g k (Lookup x q) h = absurd h
-    float-arm {w} g k (F64 x q) h = go (at (num w) s next) refl h
+    float-arm g k None h = tt
+    float-arm g k (Some (Stands q)) h = absurd h
+    float-arm g k (Some (Number (Lookup x) q)) h = absurd h
+    float-arm {w} g k (Some (Number (F64 x) q)) h = go (at (num w) s next) refl h
       where
         go : (a : Answer ℕ) → at (num w) s next ≡ a → mapped g a ≡ found x q → SpeltToken s p q (spell (F.F64 x))
         go (found y q') r h = let u : g y ≡ x = cc in let v : q' ≡ q = cc in rw (← u, ← v) (value-spells k r refl)
@@ -170,24 +166,6 @@ module _ (kss : List (List ℕ)) (e : each_id (λ k. listed k kss || (lookups k 
 pub run_none : (s : List ℕ) (p : ℕ) → p ≤ length s → Stand s p p
 run_none s p h = rw (between_none s p) (spells-none s p h)
 
--- and a token after it
-module _ {s : List ℕ} {p e : ℕ} {r : Spelling} (a : Stand s p e) (t : Spelt s e r) where
-  pub run-stands : {q : ℕ} → r ≡ Stands q → (e < q) × Stand s p q
-  run-stands {q} k = let u : SpeltToken s e q (between s e q) = rw k at t in (u.0, rw (← between-then s p e q a.on u.1.on) (spells_then a u.1))
-
-  pub run-float : {x q : ℕ} → r ≡ F64 x q → Ran s p (R.F64 e x q)
-  run-float k = (a, rw k at t)
-
-  pub run-lookup : {x q : ℕ} → r ≡ Lookup x q → Ran s p (R.Lookup e x q)
-  run-lookup k = (a, rw k at t)
-
--- what a run's answer says
-module _ (s : List ℕ) (p : ℕ) {r : Run} (h : Ran s p r) where
-  pub ran-float : {e x q : ℕ} → r ≡ R.F64 e x q → Stand s p e × SpeltToken s e q (spell (F.F64 x))
-  ran-float k = rw k at h
-
-  pub ran-lookup : {e x q : ℕ} → r ≡ R.Lookup e x q → Stand s p e × SpeltToken s e q (spell (F.Lookup x))
-  ran-lookup k = rw k at h
-
-  pub ran-otherwise : {e : ℕ} → r ≡ R.Otherwise e → Stand s p e
-  ran-otherwise k = rw k at h
+-- and a token after it that stands
+pub run-stands : {s : List ℕ} {p e q : ℕ} → Stand s p e → Spelt s e (Some (Stands q)) → (e < q) × Stand s p q
+run-stands {s} {p} {e} {q} a t = (t.0, rw (← between-then s p e q a.on t.1.on) (spells_then a t.1))

@@ -4,70 +4,71 @@ use mathlib.Core.Option.{Option, none, some}
 use mathlib.Core.List.{List, [], ◌∷◌}
 use Prim.Native.Nat.{ℕ}
 use lib.ListN.{length}
-use Rattle.form.specs.Refusals.{refusal_number, refusal_value, refusal_values}
+use Rattle.std.specs.Prelude.{Result, Ok, Err}
+use Rattle.form.specs.Refusals.{refusal_at, refusal_number, refusal_value, refusal_values}
 use Rattle.form.specs.Writing.{Outcome, wrote, declined, Follows, normalise, shorten}
 use Rattle.form.specs.Rescue as F
 use Rattle.laws.proofs.Unique.{eof_or_number, follows-one}
-use Rattle.normaliser.specs.declared.Normalised.{Normalised}
-use Rattle.normaliser.specs.declared.Normalised.TheVariants.{Written, Eof, InvalidRgb, WideLookup, NoRoom, TooLong}
-use Rattle.normaliser.specs.declared.shortening.Shortened.{Shortened}
-use Rattle.normaliser.specs.declared.shortening.Shortened.TheVariants as S
+use Rattle.payload.specs.Answers.{fault_of}
+use Rattle.payload.specs.declared.answers.LexError.{LexError}
+use Rattle.payload.specs.declared.answers.LexError.TheVariants.{Eof, InvalidRgb}
+use Rattle.normaliser.specs.declared.NormalError.{NormalError}
+use Rattle.normaliser.specs.declared.NormalError.TheVariants.{Refused, WideLookup, NoRoom, TooLong}
 use Rattle.normaliser.specs.declared.rescuing.Rescued.{Rescued}
-use Rattle.normaliser.specs.declared.rescuing.Rescued.TheVariants as K
-use Rattle.normaliser.specs.Answers.{normalised_outcome, shortened_outcome, rescued_outcome, rescued_report}
+use Rattle.normaliser.specs.declared.rescuing.RescueError.{RescueError}
+use Rattle.normaliser.specs.declared.rescuing.RescueError.TheVariants as K
+use Rattle.normaliser.specs.Answers.{normalised_outcome, rescued_outcome, rescued_report}
 
 -- the normaliser answers no other refusal
-abbrev normalised_back : Outcome → Normalised
-normalised_back (wrote n) = Written n
-normalised_back (declined r) = eof_or_number Eof ((2, InvalidRgb) ∷ (32, WideLookup) ∷ (4, NoRoom) ∷ []) TooLong r
+abbrev error_back : ℕ → ℕ → NormalError
+error_back p m = Refused (record { at = p; kind = Eof m })
 
-normalised-back : (r : Normalised) → normalised_back (normalised_outcome r) ≡ r
-unfolding refusal_number refusal_value refusal_values
-normalised-back (Written n) = refl
-normalised-back (Eof p m) = refl
-normalised-back (InvalidRgb p) = refl
-normalised-back (WideLookup p) = refl
-normalised-back (NoRoom n) = refl
-normalised-back (TooLong n) = refl
+abbrev colour_back : ℕ → NormalError
+colour_back p = Refused (record { at = p; kind = InvalidRgb })
 
-pub normalise-one : (s d : List ℕ) {r r' : Normalised} {d' d'' : List ℕ}
+abbrev normalised_back : Outcome → Result ℕ NormalError
+normalised_back (wrote n) = Ok n
+normalised_back (declined r) = Err (eof_or_number error_back ((2, colour_back) ∷ (32, WideLookup) ∷ (4, NoRoom) ∷ []) TooLong r)
+
+refused-back : (p : ℕ) (k : LexError) → normalised_back (declined (refusal_at p (fault_of k))) ≡ Err (Refused (record { at = p; kind = k }))
+unfolding refusal_at refusal_number refusal_value refusal_values
+refused-back p (Eof m) = refl
+refused-back p InvalidRgb = refl
+
+normalised-back : (r : Result ℕ NormalError) → normalised_back (normalised_outcome r) ≡ r
+unfolding refusal_at refusal_number refusal_value refusal_values
+normalised-back (Ok n) = refl
+normalised-back (Err (Refused e)) = refused-back e.at e.kind
+normalised-back (Err (WideLookup p)) = refl
+normalised-back (Err (NoRoom n)) = refl
+normalised-back (Err (TooLong n)) = refl
+
+pub normalise-one : (s d : List ℕ) {r r' : Result ℕ NormalError} {d' d'' : List ℕ}
     → Follows (normalise (length d) s) (normalised_outcome r) d d' → Follows (normalise (length d) s) (normalised_outcome r') d d'' → (r ≡ r') × (d' ≡ d'')
 normalise-one s d = follows-one normalised_outcome normalised_back normalised-back (normalise (length d) s) d
 
 -- and so it is where a save is shortened
-abbrev shortened_back : Outcome → Shortened
-shortened_back (wrote n) = S.Written n
-shortened_back (declined r) = eof_or_number S.Eof ((2, S.InvalidRgb) ∷ (4, S.NoRoom) ∷ []) S.TooLong r
-
-shortened-back : (r : Shortened) → shortened_back (shortened_outcome r) ≡ r
-unfolding refusal_number refusal_value refusal_values
-shortened-back (S.Written n) = refl
-shortened-back (S.Eof p m) = refl
-shortened-back (S.InvalidRgb p) = refl
-shortened-back (S.NoRoom n) = refl
-shortened-back (S.TooLong n) = refl
-
-pub shorten-one : (s d : List ℕ) {r r' : Shortened} {d' d'' : List ℕ}
-    → Follows (shorten (length d) s) (shortened_outcome r) d d' → Follows (shorten (length d) s) (shortened_outcome r') d d'' → (r ≡ r') × (d' ≡ d'')
-shorten-one s d = follows-one shortened_outcome shortened_back shortened-back (shorten (length d) s) d
+pub shorten-one : (s d : List ℕ) {r r' : Result ℕ NormalError} {d' d'' : List ℕ}
+    → Follows (shorten (length d) s) (normalised_outcome r) d d' → Follows (shorten (length d) s) (normalised_outcome r') d d'' → (r ≡ r') × (d' ≡ d'')
+shorten-one s d = follows-one normalised_outcome normalised_back normalised-back (shorten (length d) s) d
 
 -- and of a rescue, with its report
-abbrev rescued_back : Outcome → Option F.Report → Rescued
-rescued_back (wrote n) (some r) = K.Written n (record { cut = r.cut_off; strays = r.strays; closes = r.added })
-rescued_back (wrote n) none = K.NoRoom n
-rescued_back (declined r) o = eof_or_number (λ p m. K.NoRoom m) ((4, K.NoRoom) ∷ []) K.TooLong r
+abbrev rescued_back : Outcome → Option F.Report → Result Rescued RescueError
+rescued_back (wrote n) (some r) = Ok (record { written = n; report = record { cut = r.cut_off; strays = r.strays; closes = r.added } })
+rescued_back (wrote n) none = Err (K.NoRoom n)
+rescued_back (declined r) o = Err (eof_or_number (λ p m. K.NoRoom m) ((4, K.NoRoom) ∷ []) K.TooLong r)
 
-rescued-back : (r : Rescued) → rescued_back (rescued_outcome r) (rescued_report r) ≡ r
+rescued-back : (r : Result Rescued RescueError) → rescued_back (rescued_outcome r) (rescued_report r) ≡ r
 unfolding refusal_number refusal_value refusal_values
-rescued-back (K.Written n r) = refl
-rescued-back (K.NoRoom n) = refl
-rescued-back (K.TooLong n) = refl
+rescued-back (Ok r) = refl
+rescued-back (Err (K.NoRoom n)) = refl
+rescued-back (Err (K.TooLong n)) = refl
 
 -- what `rescue` promises of its answer r and the output d'
-abbrev Rescues : List ℕ → List ℕ → Rescued → List ℕ → Type 0
+abbrev Rescues : List ℕ → List ℕ → Result Rescued RescueError → List ℕ → Type 0
 Rescues s d r d' = Follows (F.rescue (length d) s) (rescued_outcome r) d d' × (rescued_report r ≡ F.told (length d) s)
 
-pub rescue-one : (s d : List ℕ) {r r' : Rescued} {d' d'' : List ℕ} → Rescues s d r d' → Rescues s d r' d'' → (r ≡ r') × (d' ≡ d'')
+pub rescue-one : (s d : List ℕ) {r r' : Result Rescued RescueError} {d' d'' : List ℕ} → Rescues s d r d' → Rescues s d r' d'' → (r ≡ r') × (d' ≡ d'')
 rescue-one s d {r} {r'} p q =
     let a : rescued_outcome r ≡ rescued_outcome r' = p.0.answer ∙ sym q.0.answer in
     let b : rescued_report r ≡ rescued_report r' = p.1 ∙ sym q.1 in

@@ -6,7 +6,7 @@ use Rattle.form.specs.Keys.{is_stray, count}
 use Rattle.form.specs.Rescue.{open_after, read_to, at_depth, kept_of, rescued, report}
 use Rattle.normaliser.specs.declared.rescuing.Ending.{Ending}
 use Rattle.normaliser.specs.declared.rescuing.Ending.TheVariants.{Stray, End}
-use Rattle.normaliser.specs.declared.rescuing.Survey.{Survey}
+use Rattle.normaliser.specs.declared.rescuing.Rescued.{Rescued}
 use Rattle.normaliser.specs.Answers.{report_of}
 use Rattle.normaliser.specs.Stretches.{between}
 
@@ -48,8 +48,8 @@ Stretches s p (Stray q) = ToStray s p q
 Stretches s p (End q d) = ToEnd s p q d
 
 -- a pass over the save s turns the output d into d': it counts all that is rescued and writes it where there is room, and tells the report
-pub record Surveyed (s d d' : List ℕ) (r : Survey) : Type 0 where
-  pub need : r.need ≡ length (rescued s)
+pub record Surveyed (s d d' : List ℕ) (r : Rescued) : Type 0 where
+  pub need : r.written ≡ length (rescued s)
   pub tells : report_of r.report ≡ report s
   pub bytes : length (rescued s) ≤ length d → d' ≡ leaves (written (rescued s)) d
 

@@ -1,5 +1,5 @@
 -- No public promise goes through this file. Stretches of a save: what is left of it from a place on, and what the code's steps do with it.
-use Rattle.std.specs.Prelude.{ℕ, ◌+◌, ◌-◌, ◌*◌, ◌≤◌, ◌<◌, ◌≡◌, List, ◌++◌, length, take, drop}
+use Rattle.std.specs.Prelude.{ℕ, ◌+◌, ◌-◌, ◌*◌, ◌≤◌, ◌<◌, ◌≡◌, List, ◌++◌, length, take, drop, Result, Ok, Err, Option as MayBe, Some, None}
 use Rattle.std.proofs.Math.Option.{Option, none}
 use Rattle.form.specs.Values.{Value}
 use Rattle.form.specs.Refusals.{Refusal}
@@ -11,9 +11,10 @@ use Rattle.form.specs.Writing.{Output, written, unwritten, Outcome, declined, ou
 use Rattle.token.specs.declared.Token.{Token}
 use Rattle.token.specs.Tokens.{value_of}
 use Rattle.writer.specs.Writes.{misplaced}
-use Rattle.normaliser.specs.declared.Respelled.{Respelled}
-use Rattle.normaliser.specs.declared.Respelled.TheVariants.{To, Refused}
-use Rattle.normaliser.specs.Answers.{normalised_outcome}
+use Rattle.writer.specs.declared.WriteError.{WriteError}
+use Rattle.writer.specs.declared.WriteError.TheVariants.{LongString, WideLookup, ReservedId, NoRoom, BadPlace}
+use Rattle.normaliser.specs.declared.NormalError.{NormalError}
+use Rattle.normaliser.specs.Answers.{normal_refusal}
 
 -- ---- a save in a style
 
@@ -98,9 +99,18 @@ pub record Stopped (y : Style) (s : List ℕ) (p : ℕ) (a : Outcome) : Type 0 w
   pub is : rest y s p ≡ unwritten why
   pub answer : a ≡ declined why
 
-abbrev pub Respells : List ℕ → ℕ → List ℕ → ℕ → List ℕ → Respelled → Type 0
-Respells s p d need d' (To q n) = Respelt normal_style s p q n d need d'
-Respells s p d need d' (Refused x) = Stopped normal_style s p (normalised_outcome x)
+abbrev pub Respells : List ℕ → ℕ → List ℕ → ℕ → List ℕ → Result (ℕ × ℕ) NormalError → Type 0
+Respells s p d need d' (Ok x) = Respelt normal_style s p x.0 x.1 d need d'
+Respells s p d need d' (Err e) = Stopped normal_style s p (declined (normal_refusal e))
+
+-- how many bytes the writer has counted
+abbrev pub count_of : Result ℕ WriteError → MayBe ℕ
+count_of (Ok n) = Some n
+count_of (Err (LongString p)) = None
+count_of (Err (WideLookup p)) = None
+count_of (Err (ReservedId p)) = None
+count_of (Err (NoRoom n)) = Some n
+count_of (Err (BadPlace p)) = None
 
 -- a token whose text lies within the bytes has a spelling
 pub record HasSpelling (y : Style) (s : List ℕ) (t : Token) : Type 0 where

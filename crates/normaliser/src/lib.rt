@@ -8,40 +8,44 @@ mod telling;
 
 ghost use Rattle.std.specs.Prelude.{◌≡◌, ◌+◌, ◌-◌, ◌≤◌, ◌<◌, length};
 ghost use Rattle.form.specs.Numbers.{MAX};
-ghost use Rattle.form.specs.Refusals.{refusal_at};
 ghost use Rattle.form.specs.Saves.{LIMIT as Saves-as-LIMIT};
-ghost use Rattle.form.specs.Writing.{declined, Follows, normalise as Writing·normalise};
-ghost use Rattle.payload.specs.Answers.{fault_of};
+ghost use Rattle.form.specs.Spelling.{spell};
+ghost use Rattle.form.specs.Writing.{Follows, normalise as Writing·normalise};
 ghost use Rattle.writer.specs.Layouts.{id_number};
 ghost use Rattle.normaliser.specs.Answers.{normalised_outcome};
-ghost use Rattle.normaliser.specs.Stretches.{normal_style, Passed, between, Placed, Respells, Appends};
+ghost use Rattle.normaliser.specs.Spellings.{number_value};
+ghost use Rattle.normaliser.specs.Stretches.{Style, normal_style, saved, Passed, between, Placed, count_of, Respells, Appends};
+ghost use Rattle.normaliser.specs.declared.NormalError.TheVariants as Refused;
 
-pub use crate::rescuing::{Report, Rescued, rescue};
-pub use crate::shortening::{Shortened, shorten};
-use crate::spelling::Run;
+pub use crate::rescuing::{Report, RescueError, Rescued, rescue};
+pub use crate::shortening::shorten;
+use crate::spelling::Number;
 use lexeme::LexemeId;
-use payload::LexError;
-use token::ReadToken;
-use writer::Wrote;
+use payload::{LexError, LexErrorAt};
+use writer::WriteError;
 
-#[derive(Clone, Copy)]
-pub enum Normalised {
-    Written(usize),
-    Eof(usize, usize),
-    InvalidRgb(usize),
+// Why nothing is written.
+#[derive(Clone, Copy, Debug, PartialEq, Eq)]
+pub enum NormalError {
+    Refused(LexErrorAt),
     WideLookup(usize),
     NoRoom(usize),
     TooLong(usize),
 }
 
-// The refusal of a token at a place.
-fn refused(e: LexError, at: usize) -> Normalised
-    ensures { normalised_outcome result ≡ declined (refusal_at at (fault_of e)) }
-{
-    match e {
-        LexError::Eof(missing) => Normalised::Eof(at, missing),
-        LexError::InvalidRgb => Normalised::InvalidRgb(at),
+impl From<LexErrorAt> for NormalError {
+    ghost from_gives = { λ e r. r ≡ Refused.Refused e };
+
+    fn from(e: LexErrorAt) -> NormalError {
+        NormalError::Refused(e)
     }
+}
+
+// The refusal of the token at a place.
+fn refused(kind: LexError, at: usize) -> LexErrorAt
+    ensures { result ≡ record { at = at; kind = kind } }
+{
+    LexErrorAt { at, kind }
 }
 
 // Where bytes go in an output after so many: at its end, where those do not fit.
@@ -51,32 +55,34 @@ fn place(need: usize, room: usize) -> usize
     if need <= room { need } else { room }
 }
 
-// The place after a token, and how many bytes it is spelled by; or its refusal.
-#[derive(Clone, Copy)]
-enum Respelled {
-    To(usize, usize),
-    Refused(Normalised),
+// How many bytes a token is spelled by, whether they fit or not; none, where it has no spelling.
+fn counted(written: Result<usize, WriteError>) -> Option<usize>
+    ensures { result ≡ count_of written }
+{
+    match written {
+        Ok(n) => Some(n),
+        Err(WriteError::NoRoom(n)) => Some(n),
+        Err(_) => None,
+    }
 }
 
-// The token at a place, in its normal spelling after so many bytes of the output.
-fn respell(bytes: &[u8], at: usize, out: &mut [u8], need: usize) -> Respelled
+// The token at a place, in its normal spelling after so many bytes of the output: the place after it, and how many bytes it is spelled by.
+fn respell(
+    bytes: &[u8],
+    at: usize,
+    out: &mut [u8],
+    need: usize,
+) -> Result<(usize, usize), NormalError>
     requires { at < length bytes.now }
     ensures { Respells bytes.now at out.old need out.new result }
 {
-    let r = token::read_token(bytes, at);
-    let ReadToken::Got(next, t) = r else {
-        return Respelled::Refused(refused(r.refusal(), at));
-    };
+    let (t, next) = token::read_token(bytes, at).map_err(|kind| refused(kind, at))?;
     let to = place(need, out.len());
-    match writer::write(bytes, t, &mut out[to..]) {
-        Wrote::Written(n) => Respelled::To(next, n),
-        Wrote::NoRoom(n) => Respelled::To(next, n),
+    let Some(n) = counted(writer::write(bytes, t, &mut out[to..])) else {
         // No text that was read is long or at a bad place, and no id that was read as a plain one is reserved.
-        Wrote::WideLookup(_) | Wrote::LongString(_) | Wrote::ReservedId(_) | Wrote::BadPlace(_) => {
-            let why = Normalised::WideLookup(at);
-            Respelled::Refused(why)
-        }
-    }
+        return Err(NormalError::WideLookup(at));
+    };
+    Ok((next, n))
 }
 
 // An id and a number after so many bytes of the output. Answers how many there are then.
@@ -85,8 +91,19 @@ fn put_number(out: &mut [u8], need: usize, id: LexemeId, width: u8, x: u64) -> u
     ensures { Appends out.old need (id_number id.0 width x) out.new result }
 {
     let to = place(need, out.len());
-    writer::write_number(id, width, x, &mut out[to..]);
+    let _ = writer::write_number(id, width, x, &mut out[to..]);
     need + (2 + width as usize)
+}
+
+// A float or a lookup in its normal spelling after so many bytes of the output. Answers how many there are then.
+fn put_spelling(out: &mut [u8], need: usize, x: Number) -> usize
+    requires { need + 10 ≤ MAX }
+    ensures { Appends out.old need (spell (number_value x)) out.new result }
+{
+    match x {
+        Number::F64(x) => put_number(out, need, LexemeId::F64, 8, x),
+        Number::Lookup(x) => put_number(out, need, LexemeId::LOOKUP_U24, 3, x as u64),
+    }
 }
 
 // The bytes between two places, as they stand.
@@ -98,45 +115,60 @@ fn copy_run(bytes: &[u8], start: usize, end: usize, out: &mut [u8], need: usize)
         return need;
     }
     let to = place(need, out.len());
-    writer::copy(&bytes[start..end], &mut out[to..]);
+    let _ = writer::copy(&bytes[start..end], &mut out[to..]);
     need + (end - start)
 }
 
-// The tokens that stand as they are spelled, then the one after them in its normal spelling, and so on. What does not fit is counted and
-// not written: so on an output of no bytes the pass measures.
-fn pass(bytes: &[u8], out: &mut [u8]) -> Normalised
-    requires { length bytes.now ≤ Saves-as-LIMIT }
-    ensures { Passed normal_style bytes.now out.old out.new (normalised_outcome result) }
+// A pass over a save, which spells its tokens in a style. What does not fit is counted and not written: so on an output of no bytes the
+// pass measures.
+trait Pass {
+    ghost style: { Style };
+
+    fn pass(bytes: &[u8], out: &mut [u8]) -> Result<usize, NormalError>
+        requires { length bytes.now ≤ Saves-as-LIMIT }
+        ensures { Passed style bytes.now out.old out.new (normalised_outcome result) };
+}
+
+// The save in a style at the front of the output, or a refusal that leaves the output as it is.
+fn pass_twice<P: Pass>(bytes: &[u8], out: &mut [u8]) -> Result<usize, NormalError>
+    ensures { Follows (saved P.style (length out.old) bytes.now) (normalised_outcome result) out.old out.new }
 {
-    let mut at: usize = 0;
-    let mut need: usize = 0;
-    loop {
-        let run = spelling::standing(bytes, at);
-        match run {
-            Run::F64(end, x, next) => {
-                need = copy_run(bytes, at, end, out, need);
-                need = put_number(out, need, LexemeId::F64, 8, x);
-                at = next;
-            }
-            Run::Lookup(end, x, next) => {
-                need = copy_run(bytes, at, end, out, need);
-                need = put_number(out, need, LexemeId::LOOKUP_U24, 3, x as u64);
-                at = next;
-            }
-            Run::Otherwise(end) => {
-                need = copy_run(bytes, at, end, out, need);
-                if end == bytes.len() {
-                    return Normalised::Written(need);
+    let len = bytes.len();
+    if token::LIMIT < len {
+        return Err(NormalError::TooLong(len));
+    }
+    let need = P::pass(bytes, &mut out[..0])?;
+    if out.len() < need {
+        return Err(NormalError::NoRoom(need));
+    }
+    P::pass(bytes, out)
+}
+
+struct Normal;
+
+impl Pass for Normal {
+    ghost style = { normal_style };
+
+    // The tokens that stand as they are spelled, then the one after them in its normal spelling, and so on.
+    fn pass(bytes: &[u8], out: &mut [u8]) -> Result<usize, NormalError> {
+        let mut at: usize = 0;
+        let mut need: usize = 0;
+        loop {
+            let run = spelling::standing(bytes, at);
+            let end = run.end;
+            need = copy_run(bytes, at, end, out, need);
+            match run.next {
+                Some((x, next)) => {
+                    need = put_spelling(out, need, x);
+                    at = next;
                 }
-                let token = respell(bytes, end, out, need);
-                match token {
-                    Respelled::Refused(why) => {
-                        return why;
+                None => {
+                    if end == bytes.len() {
+                        return Ok(need);
                     }
-                    Respelled::To(next, n) => {
-                        need += n;
-                        at = next;
-                    }
+                    let (next, n) = respell(bytes, end, out, need)?;
+                    need += n;
+                    at = next;
                 }
             }
         }
@@ -144,19 +176,8 @@ fn pass(bytes: &[u8], out: &mut [u8]) -> Normalised
 }
 
 // The normal form at the front of the output, or a refusal that leaves the output as it is.
-pub fn normalise(bytes: &[u8], out: &mut [u8]) -> Normalised
+pub fn normalise(bytes: &[u8], out: &mut [u8]) -> Result<usize, NormalError>
     ensures { Follows (Writing·normalise (length out.old) bytes.now) (normalised_outcome result) out.old out.new }
 {
-    let len = bytes.len();
-    if token::LIMIT < len {
-        return Normalised::TooLong(len);
-    }
-    let measured = pass(bytes, &mut out[..0]);
-    let Normalised::Written(need) = measured else {
-        return measured;
-    };
-    if out.len() < need {
-        return Normalised::NoRoom(need);
-    }
-    pass(bytes, out)
+    pass_twice::<Normal>(bytes, out)
 }

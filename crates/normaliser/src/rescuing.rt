@@ -20,9 +20,16 @@ pub struct Report {
     pub closes: usize,
 }
 
+// How many bytes the rescued save has, and what is told of it.
 #[derive(Clone, Copy)]
-pub enum Rescued {
-    Written(usize, Report),
+pub struct Rescued {
+    pub written: usize,
+    pub report: Report,
+}
+
+// Why nothing is written.
+#[derive(Clone, Copy, Debug, PartialEq, Eq)]
+pub enum RescueError {
     NoRoom(usize),
     TooLong(usize),
 }
@@ -42,23 +49,22 @@ fn stretch(bytes: &[u8], start: usize) -> Ending
     let mut at = start;
     let mut open: usize = 0;
     loop {
-        let passed = telling::pass_token(bytes, at);
-        match passed {
-            Passed::Open(next) => {
+        let Some((token, next)) = telling::pass_token(bytes, at) else {
+            return Ending::End(at, open);
+        };
+        match token {
+            Passed::Open => {
                 open += 1;
                 at = next;
             }
-            Passed::Close(next) => {
+            Passed::Close => {
                 if open == 0 {
                     return Ending::Stray(at);
                 }
                 open -= 1;
                 at = next;
             }
-            Passed::Other(next) => at = next,
-            Passed::Refused => {
-                return Ending::End(at, open);
-            }
+            Passed::Other => at = next,
         }
     }
 }
@@ -69,23 +75,14 @@ fn put_closes(out: &mut [u8], need: usize, count: usize) -> usize
     ensures { Appends out.old need (closes count) out.new result }
 {
     let mut need = need;
-    let mut left = count;
-    while left > 0 {
+    for _ in 0..count {
         need = crate::put_number(out, need, LexemeId::CLOSE, 0, 0);
-        left -= 1;
     }
     need
 }
 
-// How many bytes are kept and added, and what is told of them.
-#[derive(Clone, Copy)]
-struct Survey {
-    need: usize,
-    report: Report,
-}
-
 // The stretches of a save, of which the first is known, and then the Closes. What does not fit is counted and not written.
-fn pass(bytes: &[u8], first: Ending, out: &mut [u8]) -> Survey
+fn pass(bytes: &[u8], first: Ending, out: &mut [u8]) -> Rescued
     requires { (length bytes.now ≤ Saves-as-LIMIT) × Stretches bytes.now 0 first }
     ensures { Surveyed bytes.now out.old out.new result }
 {
@@ -105,8 +102,8 @@ fn pass(bytes: &[u8], first: Ending, out: &mut [u8]) -> Survey
                 need = crate::copy_run(bytes, at, end, out, need);
                 need = put_closes(out, need, open);
                 let cut = bytes.len() - end;
-                return Survey {
-                    need,
+                return Rescued {
+                    written: need,
                     report: Report {
                         cut,
                         strays,
@@ -128,23 +125,21 @@ fn needed(bytes: &[u8], first: Ending, room: usize) -> usize
     }
     let mut none = [0; 1];
     let measured = pass(bytes, first, &mut none[..0]);
-    measured.need
+    measured.written
 }
 
 // The rescued save at the front of the output, or a refusal that leaves the output as it is.
-pub fn rescue(bytes: &[u8], out: &mut [u8]) -> Rescued
+pub fn rescue(bytes: &[u8], out: &mut [u8]) -> Result<Rescued, RescueError>
     ensures { Follows (Rescue·rescue (length out.old) bytes.now) (rescued_outcome result) out.old out.new × (rescued_report result ≡ told (length out.old) bytes.now) }
 {
     let len = bytes.len();
     if token::LIMIT < len {
-        return Rescued::TooLong(len);
+        return Err(RescueError::TooLong(len));
     }
     let first = stretch(bytes, 0);
     let need = needed(bytes, first, out.len());
     if out.len() < need {
-        return Rescued::NoRoom(need);
+        return Err(RescueError::NoRoom(need));
     }
-    let written = pass(bytes, first, out);
-    let report = written.report;
-    Rescued::Written(written.need, report)
+    Ok(pass(bytes, first, out))
 }

@@ -1,164 +1,133 @@
 // How tokens are spelled in the normal form, by their ids and payloads. Runs of tokens that stand as they are spelled need no respelling.
 ghost use Rattle.std.specs.Prelude.{◌^◌, ◌≤◌, length};
+ghost use Rattle.form.specs.Readers.{found};
 ghost use Rattle.form.specs.Reading.{string, rgb};
-ghost use Rattle.payload.specs.Answers.{u8_answer, u16_answer, u32_answer, u64_answer};
+ghost use Rattle.payload.specs.Compact.{compact as Compact·compact};
 ghost use Rattle.normaliser.specs.Spellings.{Below, Within, Floats, Indexes, Spelt, SpeltAfter, Ran};
 
 use lexeme::{LexemeId, number};
-use payload::{ReadId, ReadRgb, ReadString, ReadU8, ReadU16, ReadU32, ReadU64};
 
+// A float or a lookup, which may stand by another id than the one that it is spelled by.
+#[derive(Clone, Copy)]
+pub(crate) enum Number {
+    F64(u64),
+    Lookup(u32),
+}
+
+// How a token is spelled, and the place after it: as it stands, or as a number.
 #[derive(Clone, Copy)]
 enum Spelling {
-    // As it stands, up to a place.
     Stands(usize),
-    // As this float or lookup; and the place after it.
-    F64(u64, usize),
-    Lookup(u32, usize),
-    // Nothing is said.
-    Otherwise,
+    Number(Number, usize),
 }
 
-// Up to where tokens stand as they are spelled, and how the one after them is spelled.
+// Up to where tokens stand as they are spelled; and how the one after them is, where it is spelled as a number.
 #[derive(Clone, Copy)]
-pub(crate) enum Run {
-    F64(usize, u64, usize),
-    Lookup(usize, u32, usize),
-    Otherwise(usize),
+pub(crate) struct Run {
+    pub end: usize,
+    pub next: Option<(Number, usize)>,
 }
 
-fn fixed(bytes: &[u8], at: usize, width: usize) -> Spelling
+fn fixed(bytes: &[u8], at: usize, width: usize) -> Option<Spelling>
     ensures { Below (256 ^ width) width bytes.now at result }
 {
     if !split::has(bytes, at, width) {
-        return Spelling::Otherwise;
+        return None;
     }
     let end = at + width;
-    Spelling::Stands(end)
+    Some(Spelling::Stands(end))
 }
 
 // Of a truth's bytes, 0 and 1 are spelled so.
-fn truth(bytes: &[u8], at: usize) -> Spelling
+fn truth(bytes: &[u8], at: usize) -> Option<Spelling>
     ensures { Below 2 1 bytes.now at result }
 {
-    let read = payload::read_lookup_u8(bytes, at);
-    let ReadU8::Got(x, next) = read else {
-        return Spelling::Otherwise;
-    };
+    let (x, next) = payload::read_lookup_u8(bytes, at).ok()?;
     if 1 < x {
-        return Spelling::Otherwise;
+        return None;
     }
-    Spelling::Stands(next)
+    Some(Spelling::Stands(next))
 }
 
-fn string(bytes: &[u8], at: usize) -> Spelling
+fn string(bytes: &[u8], at: usize) -> Option<Spelling>
     ensures { Within string bytes.now at result }
 {
-    let text = payload::read_string(bytes, at);
-    let ReadString::Got(_, next) = text else {
-        return Spelling::Otherwise;
-    };
-    Spelling::Stands(next)
+    let (_, next) = payload::read_string(bytes, at).ok()?;
+    Some(Spelling::Stands(next))
 }
 
 // A colour that reads is spelled so: its ids are judged there. The read is compiled as a call, and gets a slice of its own, as in `token`.
-fn colour(bytes: &[u8], at: usize) -> Spelling
+fn colour(bytes: &[u8], at: usize) -> Option<Spelling>
     ensures { Within rgb bytes.now at result }
 {
-    let read = payload::read_rgb(&bytes[0..], at);
-    let ReadRgb::Got(_, next) = read else {
-        return Spelling::Otherwise;
-    };
-    Spelling::Stands(next)
+    let (_, next) = payload::read_rgb(&bytes[0..], at).ok()?;
+    Some(Spelling::Stands(next))
 }
 
-// A compact number that was read.
-fn float(read: ReadU64) -> Spelling
-    ensures { Floats (u64_answer read) result }
+// A lookup that was read; a wide one has no spelling.
+fn lookup(x: u32, next: usize) -> Option<Spelling>
+    ensures { Indexes (found x next) result }
 {
-    let ReadU64::Got(x, next) = read else {
-        return Spelling::Otherwise;
-    };
-    Spelling::F64(x, next)
-}
-
-// A lookup that was read.
-fn lookup_u8(read: ReadU8) -> Spelling
-    ensures { Indexes (u8_answer read) result }
-{
-    let ReadU8::Got(x, next) = read else {
-        return Spelling::Otherwise;
-    };
-    let index = x as u32;
-    Spelling::Lookup(index, next)
-}
-
-fn lookup_u16(read: ReadU16) -> Spelling
-    ensures { Indexes (u16_answer read) result }
-{
-    let ReadU16::Got(x, next) = read else {
-        return Spelling::Otherwise;
-    };
-    let index = x as u32;
-    Spelling::Lookup(index, next)
-}
-
-fn lookup(read: ReadU32) -> Spelling
-    ensures { Indexes (u32_answer read) result }
-{
-    let ReadU32::Got(x, next) = read else {
-        return Spelling::Otherwise;
-    };
     if 0xff_ffff < x {
-        return Spelling::Otherwise;
+        return None;
     }
-    Spelling::Lookup(x, next)
+    Some(Spelling::Number(Number::Lookup(x), next))
+}
+
+// A compact number.
+fn compact(bytes: &[u8], at: usize, width: usize, negative: bool) -> Option<Spelling>
+    ensures { Floats (Compact·compact width negative bytes.now at) result }
+{
+    let (x, next) = payload::read_compact_f64(bytes, at, width, negative).ok()?;
+    Some(Spelling::Number(Number::F64(x), next))
 }
 
 // The token of an id among those of lookups and compact numbers, which ends at a place.
-fn among_lookups(bytes: &[u8], at: usize, id: LexemeId) -> Spelling
+fn among_lookups(bytes: &[u8], at: usize, id: LexemeId) -> Option<Spelling>
     ensures { SpeltAfter id.0 bytes.now at result }
 {
     let n = id.0;
     match n {
         number::LOOKUP_U24 => fixed(bytes, at, 3),
-        number::LOOKUP_U8 | number::LOOKUP_U8_ALT | number::LOOKUP_U8_SAV03 => lookup_u8(
-            payload::read_lookup_u8(bytes, at),
-        ),
-        number::LOOKUP_U16 | number::LOOKUP_U16_ALT | number::LOOKUP_U16_SAV03 => lookup_u16(
-            payload::read_lookup_u16(bytes, at),
-        ),
-        number::LOOKUP_U24_ALT | number::LOOKUP_U24_SAV03 => {
-            lookup(payload::read_lookup_u24(bytes, at))
+        number::LOOKUP_U8 | number::LOOKUP_U8_ALT | number::LOOKUP_U8_SAV03 => {
+            let (x, next) = payload::read_lookup_u8(bytes, at).ok()?;
+            lookup(x as u32, next)
         }
-        number::LOOKUP_U32 | number::LOOKUP_U32_ALT | number::LOOKUP_U32_SAV03 => lookup(
-            payload::read_lookup_u32(bytes, at),
-        ),
+        number::LOOKUP_U16 | number::LOOKUP_U16_ALT | number::LOOKUP_U16_SAV03 => {
+            let (x, next) = payload::read_lookup_u16(bytes, at).ok()?;
+            lookup(x as u32, next)
+        }
+        number::LOOKUP_U24_ALT | number::LOOKUP_U24_SAV03 => {
+            let (x, next) = payload::read_lookup_u24(bytes, at).ok()?;
+            lookup(x, next)
+        }
+        number::LOOKUP_U32 | number::LOOKUP_U32_ALT | number::LOOKUP_U32_SAV03 => {
+            let (x, next) = payload::read_lookup_u32(bytes, at).ok()?;
+            lookup(x, next)
+        }
         _ => {
             if n < number::FIXED5_ZERO {
-                return Spelling::Otherwise;
+                return None;
             }
             if n <= number::FIXED5_U56 {
                 let width = (n - number::FIXED5_ZERO) as usize;
-                return float(payload::read_compact_f64(bytes, at, width, false));
+                return compact(bytes, at, width, false);
             }
             if n <= number::FIXED5_I56 {
                 let width = (n - number::FIXED5_U56) as usize;
-                return float(payload::read_compact_f64(bytes, at, width, true));
+                return compact(bytes, at, width, true);
             }
-            Spelling::Otherwise
+            None
         }
     }
 }
 
 // How the token at a place is spelled. As in `skip`, no arm has two neighbouring numbers, and there is one caller: so it compiles to jump
 // tables in the caller's loop.
-fn spell(bytes: &[u8], at: usize) -> Spelling
+fn spell(bytes: &[u8], at: usize) -> Option<Spelling>
     ensures { Spelt bytes.now at result }
 {
-    let read = payload::read_id(bytes, at);
-    let ReadId::Got(id, next) = read else {
-        return Spelling::Otherwise;
-    };
+    let (id, next) = payload::read_id(bytes, at).ok()?;
     let n = id.0;
     match n {
         number::QUOTED | number::UNQUOTED => string(bytes, next),
@@ -169,10 +138,10 @@ fn spell(bytes: &[u8], at: usize) -> Spelling
         number::RGB => colour(bytes, next),
         _ => {
             if n < number::LOOKUP_U16 {
-                return Spelling::Stands(next);
+                return Some(Spelling::Stands(next));
             }
             if number::STR_SAV03 < n {
-                return Spelling::Stands(next);
+                return Some(Spelling::Stands(next));
             }
             among_lookups(bytes, next, id)
         }
@@ -186,19 +155,21 @@ pub(crate) fn standing(bytes: &[u8], start: usize) -> Run
 {
     let mut at = start;
     loop {
-        let token = spell(bytes, at);
-        match token {
-            Spelling::Stands(next) => {
+        match spell(bytes, at) {
+            Some(Spelling::Stands(next)) => {
                 at = next;
             }
-            Spelling::F64(x, next) => {
-                return Run::F64(at, x, next);
+            Some(Spelling::Number(x, next)) => {
+                return Run {
+                    end: at,
+                    next: Some((x, next)),
+                };
             }
-            Spelling::Lookup(x, next) => {
-                return Run::Lookup(at, x, next);
-            }
-            Spelling::Otherwise => {
-                return Run::Otherwise(at);
+            None => {
+                return Run {
+                    end: at,
+                    next: None,
+                };
             }
         }
     }

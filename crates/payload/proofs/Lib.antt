@@ -1,4 +1,4 @@
-pub mod LetElse
+pub mod Handed
 pub mod Pieces
 pub mod Signed
 pub mod Rests

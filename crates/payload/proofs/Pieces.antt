@@ -6,7 +6,7 @@ use Rattle.form.specs.Refusals.{Fault}
 use Rattle.form.specs.Readers.{found, refused, Reader, and_then, placed, at}
 use Rattle.form.specs.Reading.{next, piece}
 use Rattle.laws.proofs.Places.{piece_then}
-use Rattle.payload.proofs.LetElse.{placed-found, placed-refused}
+use Rattle.payload.proofs.Handed.{placed-found, placed-refused}
 
 module _ {A B : Type 0} (g : ℕ → List ℕ → B) (n : ℕ) (f : Reader A) (s : List ℕ) (p : ℕ) where
   pub piece-not : {why : Fault} → placed g (at (next n) s p) ≡ refused why → at (piece n f) s p ≡ refused why

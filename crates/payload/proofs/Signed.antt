@@ -1,32 +1,18 @@
--- Two's complement, over the width: what the code's two cases compute. Assumes nothing.
+-- The negation of a number of the lower half is in range, and its bits are the number negated. Assumes nothing.
 use mathlib.Core.Path.{◌≡◌, refl, ap, ◌∙◌}
 use Prim.Native.Nat.{ℕ, zero, suc, ◌-◌, ◌^◌, ◌≤◌, ◌<◌}
-use native.Mathlib.Nat.{zero-add}
 use native.Mathlib.Omega.{arith}
-use borrow.Author.Tests.{le-ltb, lt-ltb}
+use borrow.Author.Tests.{lt-ltb}
+use lib.Signed.{mag}
 use lib.IntN.{pos, negsuc, neg_ℤ, ◌-ℤ◌}
 use mir.Syntax.{Width, w64}
-use mir.Val.{SFits, to_z, of_z, bits, hbits}
+use mir.Val.{SFits, to_z, of_z, hbits}
 use mir.ValLaws.{to_z_pos, to_z-of_z}
 use Rattle.form.specs.Numbers.{negated}
-use Rattle.laws.proofs.Signs.{mag-neg}
 
-minus : (k : ℕ) → negsuc 0 -ℤ pos k ≡ negsuc k
-minus zero = refl
-minus (suc k) = ap (λ (n : ℕ). negsuc (suc n)) (zero-add k)
-
--- -1 less a number of the lower half
-below-zero : (w : Width) (k : ℕ) → k < 2 ^ hbits w → negsuc 0 -ℤ to_z w k ≡ negsuc k
-below-zero w k h = rw (to_z_pos w k h) (minus k)
-
-pub less-fits : (w : Width) (k : ℕ) → k < 2 ^ hbits w → SFits w (negsuc 0 -ℤ to_z w k)
-less-fits w k h = rw (below-zero w k h) (record { sfits = h })
-
--- the upper half is -1 less what x lacks of the largest number
-pub high_half : (w : Width) (x k : ℕ) → 2 ^ hbits w ≤ x → k < 2 ^ hbits w → k ≡ 2 ^ bits w - suc x → to_z w (of_z w (negsuc 0 -ℤ to_z w k)) ≡ to_z w x
-high_half w x k l b e = to_z-of_z w (negsuc 0 -ℤ to_z w k) (less-fits w k b) ∙ below-zero w k b ∙ rw (le-ltb x (2 ^ hbits w) l) (ap negsuc e)
-
--- ---- the negation of a number of the lower half is in range, and its bits are the number negated
+mag-neg : (n : ℕ) → mag (neg_ℤ (pos n)) ≤ n
+mag-neg zero = omega arith
+mag-neg (suc n) = omega arith
 
 minus-all : (k : ℕ) → pos 0 -ℤ pos k ≡ neg_ℤ (pos k)
 minus-all zero = refl

@@ -7,7 +7,7 @@ use Rattle.form.specs.Refusals.{Fault}
 use Rattle.form.specs.Readers.{found, refused, mapped, placed, at}
 use Rattle.form.specs.Reading.{next, num}
 use Rattle.laws.proofs.Places.{at-giving}
-use Rattle.payload.proofs.LetElse.{placed-found, placed-refused}
+use Rattle.payload.proofs.Handed.{placed-found, placed-refused}
 
 module _ {B : Type 0} (f : ℕ → List ℕ → B) (n : ℕ) (s : List ℕ) (p : ℕ) where
   -- there are so many, and it is read

@@ -1,133 +1,83 @@
--- Any two results that a promise allows are equal: each answer can be read back from what it stands for. Each theorem is for every read that
--- gives the answer of its name. Assumes nothing.
+-- Any two results that a promise allows are equal: each answer can be read back from what it stands for. Assumes nothing.
 use Prim.Native.Nat.{ℕ}
 use mathlib.Core.Path.{◌≡◌, refl, sym, ap, ◌∙◌}
-use mathlib.Core.Bool.{Bool}
 use mathlib.Core.Option.{Option, none, some}
-use lib.IntN.{ℤ}
+use Rattle.std.specs.Prelude.{Result, Ok, Err, Option as MayBe, Some, None}
 use Rattle.form.specs.Refusals.{Fault, too_short, bad_colour}
 use Rattle.form.specs.Values as F
-use Rattle.form.specs.Readers.{Answer, found, refused}
+use Rattle.form.specs.Readers.{Answer}
 use Rattle.laws.proofs.Unique.{same}
-use Rattle.payload.specs.Answers.{fault_of, u8_answer, u16_answer, u32_answer, u64_answer, i32_answer, i64_answer, bool_answer, id_answer, text_answer, alpha_of, colour_of, rgb_answer}
+use Rattle.lexeme.specs.declared.LexemeId.{LexemeId}
+use Rattle.payload.specs.Answers.{fault_of, read_as, lexed_as, alpha_of, colour_of}
+use Rattle.payload.specs.declared.answers.Eof.{Eof}
 use Rattle.payload.specs.declared.answers.LexError.{LexError}
-use Rattle.payload.specs.declared.answers.LexError.TheVariants.{Eof, InvalidRgb}
-use Rattle.payload.specs.declared.answers.Text.{Text}
-use Rattle.payload.specs.declared.answers.Alpha.{Alpha}
-use Rattle.payload.specs.declared.answers.Alpha.TheVariants.{Absent, Given}
+use Rattle.payload.specs.declared.answers.LexError.TheVariants as Refused
 use Rattle.payload.specs.declared.answers.Rgb.{Rgb}
-use Rattle.payload.specs.declared.answers.ReadU8.{ReadU8}
-use Rattle.payload.specs.declared.answers.ReadU8.TheVariants as U8
-use Rattle.payload.specs.declared.answers.ReadU16.{ReadU16}
-use Rattle.payload.specs.declared.answers.ReadU16.TheVariants as U16
-use Rattle.payload.specs.declared.answers.ReadU32.{ReadU32}
-use Rattle.payload.specs.declared.answers.ReadU32.TheVariants as U32
-use Rattle.payload.specs.declared.answers.ReadU64.{ReadU64}
-use Rattle.payload.specs.declared.answers.ReadU64.TheVariants as U64
-use Rattle.payload.specs.declared.answers.ReadI32.{ReadI32}
-use Rattle.payload.specs.declared.answers.ReadI32.TheVariants as I32
-use Rattle.payload.specs.declared.answers.ReadI64.{ReadI64}
-use Rattle.payload.specs.declared.answers.ReadI64.TheVariants as I64
-use Rattle.payload.specs.declared.answers.ReadBool.{ReadBool}
-use Rattle.payload.specs.declared.answers.ReadBool.TheVariants as Truth
-use Rattle.payload.specs.declared.answers.ReadId.{ReadId}
-use Rattle.payload.specs.declared.answers.ReadId.TheVariants as Id
-use Rattle.payload.specs.declared.answers.ReadString.{ReadString}
-use Rattle.payload.specs.declared.answers.ReadString.TheVariants as String
-use Rattle.payload.specs.declared.answers.ReadRgb.{ReadRgb}
-use Rattle.payload.specs.declared.answers.ReadRgb.TheVariants as Colour
 
 abbrev lex_error_of : Fault → LexError
-lex_error_of (too_short m) = Eof m
-lex_error_of bad_colour = InvalidRgb
+lex_error_of (too_short m) = Refused.Eof m
+lex_error_of bad_colour = Refused.InvalidRgb
 
 error-back : (e : LexError) → lex_error_of (fault_of e) ≡ e
-error-back (Eof m) = refl
-error-back InvalidRgb = refl
+error-back (Refused.Eof m) = refl
+error-back Refused.InvalidRgb = refl
 
--- an answer read back
-abbrev back_to : {E A : Type 0} → (A → ℕ → E) → (ℕ → E) → Answer A → E
-back_to got lacking (found x n) = got x n
-back_to got lacking (refused (too_short m)) = lacking m
-back_to got lacking (refused bad_colour) = lacking 0
-
--- what `refusal` gives
+-- an error is told by what is wrong
 pub refusal-one : {f : Fault} (e e' : LexError) → fault_of e ≡ f → fault_of e' ≡ f → e ≡ e'
 refusal-one = same fault_of lex_error_of error-back
 
-u8-back : (r : ReadU8) → back_to U8.Got U8.Eof (u8_answer r) ≡ r
-u8-back (U8.Got x n) = refl
-u8-back (U8.Eof m) = refl
+abbrev eof_of : Fault → Eof
+eof_of (too_short m) = record { 0 = m }
+eof_of bad_colour = record { 0 = 0 }
 
-pub u8-one : {a : Answer ℕ} (r r' : ReadU8) → u8_answer r ≡ a → u8_answer r' ≡ a → r ≡ r'
-u8-one = same u8_answer (back_to U8.Got U8.Eof) u8-back
+-- where a value is told by what it stands for, so is an answer
+module _ {V A : Type 0} (value : V → A) (one : (x x' : V) → value x ≡ value x' → x ≡ x') where
+  reads : (r r' : Result (V × ℕ) Eof) → read_as value r ≡ read_as value r' → r ≡ r'
+  reads (Ok (x, n)) (Ok (x', n')) p =
+      let v : value x ≡ value x' = cc in
+      let m : n ≡ n' = cc in
+      cc (one x x' v)
+  reads (Ok (x, n)) (Err e) p = cc
+  reads (Err e) (Ok (x, n)) p = cc
+  reads (Err e) (Err e') p = let m : e.0 ≡ e'.0 = cc in ap (λ m. Err (record { 0 = m })) m
 
-u16-back : (r : ReadU16) → back_to U16.Got U16.Eof (u16_answer r) ≡ r
-u16-back (U16.Got x n) = refl
-u16-back (U16.Eof m) = refl
+  pub read-one : {a : Answer A} (r r' : Result (V × ℕ) Eof) → read_as value r ≡ a → read_as value r' ≡ a → r ≡ r'
+  read-one r r' p q = reads r r' (p ∙ sym q)
 
-pub u16-one : {a : Answer ℕ} (r r' : ReadU16) → u16_answer r ≡ a → u16_answer r' ≡ a → r ≡ r'
-u16-one = same u16_answer (back_to U16.Got U16.Eof) u16-back
+  lexes : (r r' : Result (V × ℕ) LexError) → lexed_as value r ≡ lexed_as value r' → r ≡ r'
+  lexes (Ok (x, n)) (Ok (x', n')) p =
+      let v : value x ≡ value x' = cc in
+      let m : n ≡ n' = cc in
+      cc (one x x' v)
+  lexes (Ok (x, n)) (Err e) p = cc
+  lexes (Err e) (Ok (x, n)) p = cc
+  lexes (Err e) (Err e') p =
+      let f : fault_of e ≡ fault_of e' = cc in
+      ap Err (refusal-one e e' f refl)
 
-u32-back : (r : ReadU32) → back_to U32.Got U32.Eof (u32_answer r) ≡ r
-u32-back (U32.Got x n) = refl
-u32-back (U32.Eof m) = refl
+  pub lexed-one : {a : Answer A} (r r' : Result (V × ℕ) LexError) → lexed_as value r ≡ a → lexed_as value r' ≡ a → r ≡ r'
+  lexed-one r r' p q = lexes r r' (p ∙ sym q)
 
-pub u32-one : {a : Answer ℕ} (r r' : ReadU32) → u32_answer r ≡ a → u32_answer r' ≡ a → r ≡ r'
-u32-one = same u32_answer (back_to U32.Got U32.Eof) u32-back
+-- a number, a truth or a text stands for itself
+pub plain-one : {A : Type 0} {a : Answer A} (r r' : Result (A × ℕ) Eof) → read_as (λ x. x) r ≡ a → read_as (λ x. x) r' ≡ a → r ≡ r'
+plain-one = read-one (λ x. x) (λ x x' p. p)
 
-u64-back : (r : ReadU64) → back_to U64.Got U64.Eof (u64_answer r) ≡ r
-u64-back (U64.Got x n) = refl
-u64-back (U64.Eof m) = refl
+ids : (x x' : LexemeId) → x.0 ≡ x'.0 → x ≡ x'
+ids x x' p = ap (λ i. record { 0 = i }) p
 
-pub u64-one : {a : Answer ℕ} (r r' : ReadU64) → u64_answer r ≡ a → u64_answer r' ≡ a → r ≡ r'
-u64-one = same u64_answer (back_to U64.Got U64.Eof) u64-back
-
-i32-back : (r : ReadI32) → back_to I32.Got I32.Eof (i32_answer r) ≡ r
-i32-back (I32.Got x n) = refl
-i32-back (I32.Eof m) = refl
-
-pub i32-one : {a : Answer ℤ} (r r' : ReadI32) → i32_answer r ≡ a → i32_answer r' ≡ a → r ≡ r'
-i32-one = same i32_answer (back_to I32.Got I32.Eof) i32-back
-
-i64-back : (r : ReadI64) → back_to I64.Got I64.Eof (i64_answer r) ≡ r
-i64-back (I64.Got x n) = refl
-i64-back (I64.Eof m) = refl
-
-pub i64-one : {a : Answer ℤ} (r r' : ReadI64) → i64_answer r ≡ a → i64_answer r' ≡ a → r ≡ r'
-i64-one = same i64_answer (back_to I64.Got I64.Eof) i64-back
-
-bool-back : (r : ReadBool) → back_to Truth.Got Truth.Eof (bool_answer r) ≡ r
-bool-back (Truth.Got x n) = refl
-bool-back (Truth.Eof m) = refl
-
-pub bool-one : {a : Answer Bool} (r r' : ReadBool) → bool_answer r ≡ a → bool_answer r' ≡ a → r ≡ r'
-bool-one = same bool_answer (back_to Truth.Got Truth.Eof) bool-back
-
-id-back : (r : ReadId) → back_to (λ x n. Id.Got (record { 0 = x }) n) Id.Eof (id_answer r) ≡ r
-id-back (Id.Got x n) = refl
-id-back (Id.Eof m) = refl
-
-pub id-one : {a : Answer ℕ} (r r' : ReadId) → id_answer r ≡ a → id_answer r' ≡ a → r ≡ r'
-id-one = same id_answer (back_to (λ x n. Id.Got (record { 0 = x }) n) Id.Eof) id-back
-
-string-back : (r : ReadString) → back_to String.Got String.Eof (text_answer r) ≡ r
-string-back (String.Got x n) = refl
-string-back (String.Eof m) = refl
-
-pub string-one : {a : Answer Text} (r r' : ReadString) → text_answer r ≡ a → text_answer r' ≡ a → r ≡ r'
-string-one = same text_answer (back_to String.Got String.Eof) string-back
+pub id-one : {a : Answer ℕ} (r r' : Result (LexemeId × ℕ) Eof) → read_as (λ x. x.0) r ≡ a → read_as (λ x. x.0) r' ≡ a → r ≡ r'
+id-one = read-one (λ x. x.0) ids
 
 -- a colour stands for a value of one case only, so it is told by that case's parts
-abbrev alpha_back : Option ℕ → Alpha
-alpha_back none = Absent
-alpha_back (some a) = Given a
+abbrev alpha_back : Option ℕ → MayBe ℕ
+alpha_back none = None
+alpha_back (some a) = Some a
 
-alpha-back : (a : Alpha) → alpha_back (alpha_of a) ≡ a
-alpha-back Absent = refl
-alpha-back (Given a) = refl
+alpha-back : (a : MayBe ℕ) → alpha_back (alpha_of a) ≡ a
+alpha-back None = refl
+alpha-back (Some a) = refl
 
-abbrev painted : ℕ → ℕ → ℕ → Alpha → Rgb
+abbrev painted : ℕ → ℕ → ℕ → MayBe ℕ → Rgb
 painted r g b a = record { r = r; g = g; b = b; a = a }
 
 pub colour-one : (x x' : Rgb) → colour_of x ≡ colour_of x' → x ≡ x'
@@ -140,19 +90,5 @@ colour-one x x' p =
     let e : painted x.r x.g x.b x.a ≡ painted x'.r x'.g x'.b x'.a = rw (r, g, b, a) in
     e
 
-colours : (r r' : ReadRgb) → rgb_answer r ≡ rgb_answer r' → r ≡ r'
-colours (Colour.Got x n) (Colour.Got x' n') p =
-    let v : colour_of x ≡ colour_of x' = cc in
-    let m : n ≡ n' = cc in
-    cc (colour-one x x' v)
-colours (Colour.Got x n) (Colour.Eof m) p = cc
-colours (Colour.Got x n) Colour.InvalidRgb p = cc
-colours (Colour.Eof m) (Colour.Got x n) p = cc
-colours (Colour.Eof m) (Colour.Eof k) p = let q : m ≡ k = cc in ap Colour.Eof q
-colours (Colour.Eof m) Colour.InvalidRgb p = cc
-colours Colour.InvalidRgb (Colour.Got x n) p = cc
-colours Colour.InvalidRgb (Colour.Eof m) p = cc
-colours Colour.InvalidRgb Colour.InvalidRgb p = refl
-
-pub rgb-one : {a : Answer F.Value} (r r' : ReadRgb) → rgb_answer r ≡ a → rgb_answer r' ≡ a → r ≡ r'
-rgb-one r r' p q = colours r r' (p ∙ sym q)
+pub rgb-one : {a : Answer F.Value} (r r' : Result (Rgb × ℕ) LexError) → lexed_as colour_of r ≡ a → lexed_as colour_of r' ≡ a → r ≡ r'
+rgb-one = lexed-one colour_of colour-one

@@ -8,29 +8,19 @@ ghost use Rattle.form.specs.Spelling.{bit};
 pub fn of_bool(x: bool) -> u64
     ensures { result ≡ bit x }
 {
-    if x { 1 } else { 0 }
+    u64::from(x)
 }
 
 // The 32 bits of a signed number, in two's complement.
 pub fn of_i32(x: i32) -> u64
     ensures { result ≡ of_z w32 x }
 {
-    if x < 0 {
-        let m = (-(x + 1)) as u64;
-        0xffff_ffff - m
-    } else {
-        x as u64
-    }
+    u64::from(x.cast_unsigned())
 }
 
 // The 64 bits of a signed number, in two's complement.
 pub fn of_i64(x: i64) -> u64
     ensures { result ≡ of_z w64 x }
 {
-    if x < 0 {
-        let m = (-(x + 1)) as u64;
-        u64::MAX - m
-    } else {
-        x as u64
-    }
+    x.cast_unsigned()
 }

@@ -2,10 +2,10 @@
 ghost use Rattle.std.specs.Prelude.{◌≡◌};
 ghost use Rattle.form.specs.Readers.{at as read_at};
 ghost use Rattle.form.specs.Reading.{channel, channels, rgb, alpha_end, with_alpha, ending, headed};
-ghost use Rattle.payload.specs.Answers.{short_by, rgb_answer};
-ghost use Rattle.payload.specs.Colour.{channel_answer};
+ghost use Rattle.payload.specs.Answers.{read_as, lexed_as, colour_of};
+ghost use Rattle.payload.specs.Colour.{channel_of};
 
-use crate::answers::{Alpha, ReadId, ReadRgb, ReadString, ReadU32, Rgb};
+use crate::answers::{LexError, Read, Rgb};
 use lexeme::{LexemeId, number};
 
 // An id and the four bytes after it.
@@ -15,35 +15,12 @@ struct Channel {
     pub value: u32,
 }
 
-#[derive(Clone, Copy)]
-enum ReadChannel {
-    Got(Channel, usize),
-    Eof(usize),
-}
-
-impl ReadChannel {
-    fn missing(self) -> usize
-        ensures { result ≡ short_by (channel_answer self) }
-    {
-        match self {
-            ReadChannel::Got(_, _) => 0,
-            ReadChannel::Eof(missing) => missing,
-        }
-    }
-}
-
-fn read_channel(bytes: &[u8], at: usize) -> ReadChannel
-    ensures { channel_answer result ≡ read_at channel bytes.now at }
+fn read_channel(bytes: &[u8], at: usize) -> Read<Channel>
+    ensures { read_as channel_of result ≡ read_at channel bytes.now at }
 {
-    let first = crate::read_id(bytes, at);
-    let ReadId::Got(id, start) = first else {
-        return ReadChannel::Eof(first.missing());
-    };
-    let second = crate::read_u32(bytes, start);
-    let ReadU32::Got(value, next) = second else {
-        return ReadChannel::Eof(second.missing());
-    };
-    ReadChannel::Got(Channel { id, value }, next)
+    let (id, start) = crate::read_id(bytes, at)?;
+    let (value, next) = crate::read_u32(bytes, start)?;
+    Ok((Channel { id, value }, next))
 }
 
 // Whether a colour begins as it must.
@@ -63,101 +40,68 @@ fn begins(o: LexemeId, r: LexemeId, g: LexemeId, b: LexemeId) -> bool
 }
 
 // A fourth channel's number and the end, by what stands there.
-fn read_last(bytes: &[u8], at: usize, r: u32, g: u32, b: u32) -> ReadRgb
-    ensures { rgb_answer result ≡ read_at (alpha_end r g b) bytes.now at }
+fn read_last(bytes: &[u8], at: usize, r: u32, g: u32, b: u32) -> Result<(Rgb, usize), LexError>
+    ensures { lexed_as colour_of result ≡ read_at (alpha_end r g b) bytes.now at }
 {
-    let first = crate::read_u32(bytes, at);
-    let ReadU32::Got(a, middle) = first else {
-        return ReadRgb::Eof(first.missing());
-    };
-    let second = crate::read_id(bytes, middle);
-    let ReadId::Got(end, next) = second else {
-        return ReadRgb::Eof(second.missing());
-    };
+    let (a, middle) = crate::read_u32(bytes, at)?;
+    let (end, next) = crate::read_id(bytes, middle)?;
     if end.is(LexemeId::CLOSE) {
-        ReadRgb::Got(
-            Rgb {
-                r,
-                g,
-                b,
-                a: Alpha::Given(a),
-            },
-            next,
-        )
+        let a = Some(a);
+        Ok((Rgb { r, g, b, a }, next))
     } else {
-        ReadRgb::InvalidRgb
+        Err(LexError::InvalidRgb)
     }
 }
 
 // The same, where all its bytes are there.
-fn read_alpha(bytes: &[u8], at: usize, r: u32, g: u32, b: u32) -> ReadRgb
-    ensures { rgb_answer result ≡ read_at (with_alpha r g b) bytes.now at }
+fn read_alpha(bytes: &[u8], at: usize, r: u32, g: u32, b: u32) -> Result<(Rgb, usize), LexError>
+    ensures { lexed_as colour_of result ≡ read_at (with_alpha r g b) bytes.now at }
 {
-    let piece = crate::read_bytes(bytes, at, 6);
-    let ReadString::Got(_, _) = piece else {
-        return ReadRgb::Eof(piece.missing());
-    };
+    crate::read_bytes(bytes, at, 6)?;
     read_last(bytes, at, r, g, b)
 }
 
 // What follows the third channel.
-fn closing(bytes: &[u8], at: usize, end: LexemeId, r: u32, g: u32, b: u32) -> ReadRgb
-    ensures { rgb_answer result ≡ read_at (ending end.0 r g b) bytes.now at }
+fn closing(
+    bytes: &[u8],
+    at: usize,
+    end: LexemeId,
+    r: u32,
+    g: u32,
+    b: u32,
+) -> Result<(Rgb, usize), LexError>
+    ensures { lexed_as colour_of result ≡ read_at (ending end.0 r g b) bytes.now at }
 {
-    let n = end.0;
-    match n {
-        number::CLOSE => ReadRgb::Got(
-            Rgb {
-                r,
-                g,
-                b,
-                a: Alpha::Absent,
-            },
-            at,
-        ),
+    match end.0 {
+        number::CLOSE => {
+            let a = None;
+            Ok((Rgb { r, g, b, a }, at))
+        }
         number::U32 => read_alpha(bytes, at, r, g, b),
-        _ => ReadRgb::InvalidRgb,
+        _ => Err(LexError::InvalidRgb),
     }
 }
 
 // Three channels and what follows them, by what stands there.
-fn read_channels(bytes: &[u8], at: usize) -> ReadRgb
-    ensures { rgb_answer result ≡ read_at channels bytes.now at }
+fn read_channels(bytes: &[u8], at: usize) -> Result<(Rgb, usize), LexError>
+    ensures { lexed_as colour_of result ≡ read_at channels bytes.now at }
 {
-    let first = crate::read_id(bytes, at);
-    let ReadId::Got(open, at1) = first else {
-        return ReadRgb::Eof(first.missing());
-    };
-    let red = read_channel(bytes, at1);
-    let ReadChannel::Got(r, at2) = red else {
-        return ReadRgb::Eof(red.missing());
-    };
-    let green = read_channel(bytes, at2);
-    let ReadChannel::Got(g, at3) = green else {
-        return ReadRgb::Eof(green.missing());
-    };
-    let blue = read_channel(bytes, at3);
-    let ReadChannel::Got(b, at4) = blue else {
-        return ReadRgb::Eof(blue.missing());
-    };
-    let last = crate::read_id(bytes, at4);
-    let ReadId::Got(end, at5) = last else {
-        return ReadRgb::Eof(last.missing());
-    };
+    let (open, at1) = crate::read_id(bytes, at)?;
+    let (r, at2) = read_channel(bytes, at1)?;
+    let (g, at3) = read_channel(bytes, at2)?;
+    let (b, at4) = read_channel(bytes, at3)?;
+    let (end, at5) = crate::read_id(bytes, at4)?;
     if begins(open, r.id, g.id, b.id) {
         closing(bytes, at5, end, r.value, g.value, b.value)
     } else {
-        ReadRgb::InvalidRgb
+        Err(LexError::InvalidRgb)
     }
 }
 
 // The same, where its first 22 bytes are there.
-pub(crate) fn read_colour(bytes: &[u8], at: usize) -> ReadRgb
-    ensures { rgb_answer result ≡ read_at rgb bytes.now at }
+pub(crate) fn read_colour(bytes: &[u8], at: usize) -> Result<(Rgb, usize), LexError>
+    ensures { lexed_as colour_of result ≡ read_at rgb bytes.now at }
 {
-    let piece = crate::read_bytes(bytes, at, 22);
-    let ReadString::Got(_, _) = piece else {
-        return ReadRgb::Eof(piece.missing());
-    };
+    crate::read_bytes(bytes, at, 22)?;
     read_channels(bytes, at)
 }

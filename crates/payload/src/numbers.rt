@@ -5,9 +5,9 @@ ghost use Rattle.std.proofs.Common.{to_z};
 ghost use Rattle.form.specs.Numbers.{le};
 ghost use Rattle.form.specs.Readers.{at as read_at};
 ghost use Rattle.form.specs.Reading.{num};
-ghost use Rattle.payload.specs.Answers.{u32_answer, u64_answer};
+ghost use Rattle.payload.specs.Answers.{read_as};
 
-use crate::answers::{ReadString, ReadU32, ReadU64};
+use crate::answers::Read;
 
 // The little-endian number of width bytes at a place, built from the highest byte down.
 pub(crate) fn spelled(bytes: &[u8], at: usize, width: usize) -> u64
@@ -15,39 +15,29 @@ pub(crate) fn spelled(bytes: &[u8], at: usize, width: usize) -> u64
     ensures { result ≡ le (take width (drop at bytes.now)) }
 {
     let mut x: u64 = 0;
-    let mut i = width;
-    while 0 < i {
-        i -= 1;
+    for i in (0..width).rev() {
         x = x * 256 + bytes[at + i] as u64;
     }
     x
 }
 
 // The number of width bytes at a place.
-pub(crate) fn read_width(bytes: &[u8], at: usize, width: usize) -> ReadU64
+pub(crate) fn read_width(bytes: &[u8], at: usize, width: usize) -> Read<u64>
     requires { width ≤ 8 }
-    ensures { u64_answer result ≡ read_at (num width) bytes.now at }
+    ensures { read_as (λ x. x) result ≡ read_at (num width) bytes.now at }
 {
-    let part = crate::read_bytes(bytes, at, width);
-    let ReadString::Got(_, _) = part else {
-        return ReadU64::Eof(part.missing());
-    };
+    let (_, next) = crate::read_bytes(bytes, at, width)?;
     let x = spelled(bytes, at, width);
-    let next = at + width;
-    ReadU64::Got(x, next)
+    Ok((x, next))
 }
 
 // The same, where the number fits into 32 bits.
-pub(crate) fn read_width32(bytes: &[u8], at: usize, width: usize) -> ReadU32
+pub(crate) fn read_width32(bytes: &[u8], at: usize, width: usize) -> Read<u32>
     requires { width ≤ 4 }
-    ensures { u32_answer result ≡ read_at (num width) bytes.now at }
+    ensures { read_as (λ x. x) result ≡ read_at (num width) bytes.now at }
 {
-    let r = read_width(bytes, at, width);
-    let ReadU64::Got(x, next) = r else {
-        return ReadU32::Eof(r.missing());
-    };
-    let value = x as u32;
-    ReadU32::Got(value, next)
+    let (x, next) = read_width(bytes, at, width)?;
+    Ok((x as u32, next))
 }
 
 // The number that 32 bits spell in two's complement.
@@ -55,20 +45,12 @@ pub(crate) fn signed32(x: u64) -> i32
     requires { x ≤ 4294967295 }
     ensures { result ≡ to_z w32 x }
 {
-    if x < 2147483648 {
-        x as i32
-    } else {
-        -1 - (4294967295 - x) as i32
-    }
+    (x as u32).cast_signed()
 }
 
 // The number that 64 bits spell in two's complement.
 pub fn signed64(x: u64) -> i64
     ensures { result ≡ to_z w64 x }
 {
-    if x < 9223372036854775808 {
-        x as i64
-    } else {
-        -1 - (u64::MAX - x) as i64
-    }
+    x.cast_signed()
 }

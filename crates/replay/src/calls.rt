@@ -1,15 +1,9 @@
-// The calls by their numbers, and whether one answers as a line says.
+// The calls by their numbers, and whether one answers as a line says. What a call returns is its code; nothing for a number that no call
+// has, or for what cannot be given to it.
 use crate::line::NUMBERS;
 use crate::outputs::{LENT, LONGEST_OUTPUT};
 use crate::{lists, outputs, sources};
 use capi::{counting, kinds, lexing, parts};
-
-// What a call returns; nothing for a number that no call has, or for what cannot be given to it.
-#[derive(Clone, Copy)]
-pub enum Asked {
-    Code(u32),
-    Nothing,
-}
 
 // The code and all eight words are those of the line, and so are the lent bytes.
 pub(crate) fn holds(numbers: &[u64; NUMBERS], bytes: &[u8], output: &[u8]) -> bool {
@@ -26,18 +20,11 @@ pub(crate) fn holds(numbers: &[u64; NUMBERS], bytes: &[u8], output: &[u8]) -> bo
         52 | 55 => lists::ask(call, bytes, at, &mut out, &mut answer),
         _ => ask(call, bytes, at, offset, arg, &mut answer),
     };
-    if same_code(asked, numbers[4]) {
-        if same_words(numbers, &answer) {
-            return outputs::same_output(output, &out);
-        }
-    }
-    false
-}
-
-fn same_code(asked: Asked, code: u64) -> bool {
     match asked {
-        Asked::Code(c) => c as u64 == code,
-        Asked::Nothing => false,
+        Some(code) if u64::from(code) == numbers[4] => {
+            numbers[5..] == answer[..] && outputs::same_output(output, &out)
+        }
+        _ => false,
     }
 }
 
@@ -49,32 +36,34 @@ fn lent(call: u64) -> u64 {
     }
 }
 
-fn same_words(numbers: &[u64; NUMBERS], answer: &[u64; 8]) -> bool {
-    let mut i: usize = 0;
-    while i < 8 {
-        if numbers[i + 5] != answer[i] {
-            return false;
-        }
-        i += 1;
-    }
-    true
-}
-
 // The recording numbers them in the same order.
-fn ask(call: u64, bytes: &[u8], at: usize, offset: usize, arg: usize, answer: &mut [u64]) -> Asked {
+fn ask(
+    call: u64,
+    bytes: &[u8],
+    at: usize,
+    offset: usize,
+    arg: usize,
+    answer: &mut [u64],
+) -> Option<u32> {
     match call {
-        1 => into_kind(arg),
-        2 => is_id(arg),
+        1 => Some(kinds::stivlaheim_into_kind(u16::try_from(arg).ok()?)),
+        2 => Some(u32::from(kinds::stivlaheim_is_id(u16::try_from(arg).ok()?))),
         3..=6 => ask_part(call, bytes, at, offset, arg, answer),
         7..=13 => ask_token(call, bytes, at, offset, answer),
         14..=19 => ask_text(call, bytes, at, offset, answer),
         20..=26 => ask_number(call, bytes, at, offset, answer),
-        27 => skip_value(bytes, at, offset, arg, answer),
-        28 => Asked::Code(lexing::stivlaheim_skip_container(bytes, at, offset, answer)),
-        51 => find_key(bytes, at, offset, arg, answer),
+        27 => {
+            let id = u16::try_from(arg).ok()?;
+            Some(lexing::stivlaheim_skip_value(bytes, at, offset, id, answer))
+        }
+        28 => Some(lexing::stivlaheim_skip_container(bytes, at, offset, answer)),
+        51 => {
+            let id = u16::try_from(arg).ok()?;
+            Some(lexing::stivlaheim_find_key(bytes, at, offset, id, answer))
+        }
         53 => lists::search(bytes, at as u64, answer),
-        56 => Asked::Code(lexing::stivlaheim_position(bytes, at, offset, answer)),
-        _ => Asked::Nothing,
+        56 => Some(lexing::stivlaheim_position(bytes, at, offset, answer)),
+        _ => None,
     }
 }
 
@@ -85,19 +74,19 @@ fn ask_part(
     offset: usize,
     arg: usize,
     answer: &mut [u64],
-) -> Asked {
-    Asked::Code(match call {
+) -> Option<u32> {
+    Some(match call {
         3 => parts::stivlaheim_get_split(bytes, arg, answer),
         4 => parts::stivlaheim_text(bytes, at, arg, answer),
         5 => lexing::stivlaheim_remainder(bytes, at, offset, answer),
         6 => lexing::stivlaheim_read_bytes(bytes, at, offset, arg, answer),
-        _ => return Asked::Nothing,
+        _ => return None,
     })
 }
 
 // Ids and tokens.
-fn ask_token(call: u64, bytes: &[u8], at: usize, offset: usize, answer: &mut [u64]) -> Asked {
-    Asked::Code(match call {
+fn ask_token(call: u64, bytes: &[u8], at: usize, offset: usize, answer: &mut [u64]) -> Option<u32> {
+    Some(match call {
         7 => lexing::stivlaheim_read_id(bytes, at, offset, answer),
         8 => lexing::stivlaheim_next_id(bytes, at, offset, answer),
         9 => lexing::stivlaheim_peek_id(bytes, at, offset, answer),
@@ -105,26 +94,32 @@ fn ask_token(call: u64, bytes: &[u8], at: usize, offset: usize, answer: &mut [u6
         11 => lexing::stivlaheim_next_token(bytes, at, offset, answer),
         12 => lexing::stivlaheim_peek_token(bytes, at, offset, answer),
         13 => counting::stivlaheim_count_tokens(bytes, answer),
-        _ => return Asked::Nothing,
+        _ => return None,
     })
 }
 
 // Strings, bools and lookups.
-fn ask_text(call: u64, bytes: &[u8], at: usize, offset: usize, answer: &mut [u64]) -> Asked {
-    Asked::Code(match call {
+fn ask_text(call: u64, bytes: &[u8], at: usize, offset: usize, answer: &mut [u64]) -> Option<u32> {
+    Some(match call {
         14 => lexing::stivlaheim_read_string(bytes, at, offset, answer),
         15 => lexing::stivlaheim_read_bool(bytes, at, offset, answer),
         16 => lexing::stivlaheim_read_lookup_u8(bytes, at, offset, answer),
         17 => lexing::stivlaheim_read_lookup_u16(bytes, at, offset, answer),
         18 => lexing::stivlaheim_read_lookup_u24(bytes, at, offset, answer),
         19 => lexing::stivlaheim_read_lookup_u32(bytes, at, offset, answer),
-        _ => return Asked::Nothing,
+        _ => return None,
     })
 }
 
 // Numbers and colours.
-fn ask_number(call: u64, bytes: &[u8], at: usize, offset: usize, answer: &mut [u64]) -> Asked {
-    Asked::Code(match call {
+fn ask_number(
+    call: u64,
+    bytes: &[u8],
+    at: usize,
+    offset: usize,
+    answer: &mut [u64],
+) -> Option<u32> {
+    Some(match call {
         20 => lexing::stivlaheim_read_u32(bytes, at, offset, answer),
         21 => lexing::stivlaheim_read_u64(bytes, at, offset, answer),
         22 => lexing::stivlaheim_read_i32(bytes, at, offset, answer),
@@ -132,34 +127,6 @@ fn ask_number(call: u64, bytes: &[u8], at: usize, offset: usize, answer: &mut [u
         24 => lexing::stivlaheim_read_f32(bytes, at, offset, answer),
         25 => lexing::stivlaheim_read_f64(bytes, at, offset, answer),
         26 => lexing::stivlaheim_read_rgb(bytes, at, offset, answer),
-        _ => return Asked::Nothing,
+        _ => return None,
     })
-}
-
-fn into_kind(id: usize) -> Asked {
-    if id > 0xffff {
-        return Asked::Nothing;
-    }
-    Asked::Code(kinds::stivlaheim_into_kind(id as u16))
-}
-
-fn is_id(id: usize) -> Asked {
-    if id > 0xffff {
-        return Asked::Nothing;
-    }
-    Asked::Code(kinds::stivlaheim_is_id(id as u16) as u32)
-}
-
-fn find_key(bytes: &[u8], at: usize, offset: usize, id: usize, answer: &mut [u64]) -> Asked {
-    if id > 0xffff {
-        return Asked::Nothing;
-    }
-    Asked::Code(lexing::stivlaheim_find_key(bytes, at, offset, id as u16, answer))
-}
-
-fn skip_value(bytes: &[u8], at: usize, offset: usize, id: usize, answer: &mut [u64]) -> Asked {
-    if id > 0xffff {
-        return Asked::Nothing;
-    }
-    Asked::Code(lexing::stivlaheim_skip_value(bytes, at, offset, id as u16, answer))
 }

@@ -2,10 +2,23 @@
 // else it is given, the code of its answer and the eight words. The bytes are the input, or the input, a slash and what the call leaves in
 // the bytes that it is lent; a dash stands for none. A line that begins with # is a comment.
 
+ghost use Rattle.std.specs.Prelude.{◌<◌, IfSome};
+
 pub const NUMBERS: usize = 13;
 
 // Of the input and the output together.
 pub const LONGEST: usize = 1280;
+
+// The digits of a byte, two by two.
+#[derive(Clone, Copy, Debug, PartialEq, Eq)]
+pub enum Digits {
+    // None waits for its second.
+    Even,
+    // One does: sixteen times its value.
+    High(u8),
+    // A dash stands for all of them.
+    Dash,
+}
 
 // How far it is read.
 #[derive(Clone, Copy)]
@@ -20,8 +33,7 @@ pub struct Line {
     pub input: usize,
     // The input has ended.
     pub parted: bool,
-    // The digit that waits for its second, or 16; 17 after a dash.
-    pub half: u8,
+    pub digits: Digits,
     pub comment: bool,
     pub sound: bool,
 }
@@ -35,7 +47,7 @@ impl Line {
             len: 0,
             input: 0,
             parted: false,
-            half: 16,
+            digits: Digits::Even,
             comment: false,
             sound: true,
         }
@@ -43,27 +55,16 @@ impl Line {
 
     // Nothing is read of it.
     pub(crate) fn is_empty(self) -> bool {
-        if self.begun {
-            return false;
-        }
-        self.column == 0
+        !self.begun && self.column == 0
     }
 
     // All columns are there.
     pub(crate) fn is_whole(self) -> bool {
-        if self.sound {
-            if self.column == NUMBERS {
-                return self.part_is_whole();
-            }
-        }
-        false
+        self.sound && self.column == NUMBERS && self.part_is_whole()
     }
 
     fn part_is_whole(self) -> bool {
-        if self.begun {
-            return self.half > 15;
-        }
-        false
+        self.begun && !matches!(self.digits, Digits::High(_))
     }
 
     // Its next byte.
@@ -83,57 +84,55 @@ impl Line {
     }
 
     fn spoilt(self) -> Line {
-        let mut line = self;
-        line.begun = true;
-        line.sound = false;
-        line
+        Line {
+            begun: true,
+            sound: false,
+            ..self
+        }
     }
 
     fn feed_number(self, b: u8, numbers: &mut [u64; NUMBERS]) -> Line {
         match b {
-            b'0'..=b'9' => self.digit((b - b'0') as u64),
+            b'0'..=b'9' => self.digit(b - b'0'),
             b' ' => self.end_number(numbers),
             b'#' => self.comment(),
             _ => self.spoilt(),
         }
     }
 
-    fn digit(self, d: u64) -> Line {
-        let number = self.number;
-        if number > u64::MAX / 10 {
-            return self.spoilt();
+    fn digit(self, d: u8) -> Line {
+        let tens = self.number.checked_mul(10);
+        match tens.and_then(|tens| tens.checked_add(u64::from(d))) {
+            Some(number) => Line {
+                begun: true,
+                number,
+                ..self
+            },
+            None => self.spoilt(),
         }
-        let tens = number * 10;
-        if d > u64::MAX - tens {
-            return self.spoilt();
-        }
-        let mut line = self;
-        line.begun = true;
-        line.number = tens + d;
-        line
     }
 
     fn end_number(self, numbers: &mut [u64; NUMBERS]) -> Line {
         let column = self.column;
-        let mut line = self;
-        if line.begun {
-            if column < NUMBERS {
-                numbers[column] = line.number;
-                line.column = column + 1;
-                line.begun = false;
-                line.number = 0;
-                return line;
-            }
+        if self.begun && column < NUMBERS {
+            numbers[column] = self.number;
+            return Line {
+                column: column + 1,
+                begun: false,
+                number: 0,
+                ..self
+            };
         }
-        line.spoilt()
+        self.spoilt()
     }
 
     fn comment(self) -> Line {
         if self.is_empty() {
-            let mut line = self;
-            line.begun = true;
-            line.comment = true;
-            return line;
+            return Line {
+                begun: true,
+                comment: true,
+                ..self
+            };
         }
         self.spoilt()
     }
@@ -151,72 +150,63 @@ impl Line {
         if self.begun {
             return self.spoilt();
         }
-        let mut line = self;
-        line.begun = true;
-        line.half = 17;
-        line
+        Line {
+            begun: true,
+            digits: Digits::Dash,
+            ..self
+        }
     }
 
     // A slash, after a whole input.
     fn end_input(self) -> Line {
-        if self.parted {
+        if self.parted || !self.part_is_whole() {
             return self.spoilt();
         }
-        if self.part_is_whole() {
-            let mut line = self;
-            line.parted = true;
-            line.begun = false;
-            line.half = 16;
-            return line;
+        Line {
+            parted: true,
+            begun: false,
+            digits: Digits::Even,
+            ..self
         }
-        self.spoilt()
     }
 
     fn hex(self, b: u8, bytes: &mut [u8; LONGEST]) -> Line {
-        let d = hex_digit(b);
-        let half = self.half;
-        if d > 15 {
+        let Some(d) = hex_digit(b) else {
             return self.spoilt();
+        };
+        match self.digits {
+            Digits::Even => Line {
+                begun: true,
+                digits: Digits::High(d * 16),
+                ..self
+            },
+            Digits::High(high) => self.byte(high | d, bytes),
+            Digits::Dash => self.spoilt(),
         }
-        if half > 16 {
-            return self.spoilt();
-        }
-        let mut line = self;
-        line.begun = true;
-        if half > 15 {
-            line.half = d;
-            return line;
-        }
-        line.half = 16;
-        line.byte(half * 16 + d, bytes)
     }
 
     fn byte(self, b: u8, bytes: &mut [u8; LONGEST]) -> Line {
-        let len = self.len;
-        let mut line = self;
-        if len < LONGEST {
-            bytes[len] = b;
-            line.len = len + 1;
-            return line.lengthened();
+        if self.len < LONGEST {
+            bytes[self.len] = b;
+            let len = self.len + 1;
+            return Line {
+                digits: Digits::Even,
+                len,
+                input: if self.parted { self.input } else { len },
+                ..self
+            };
         }
-        line.spoilt()
-    }
-
-    fn lengthened(self) -> Line {
-        let mut line = self;
-        if line.parted {
-            return line;
-        }
-        line.input = line.len;
-        line
+        self.spoilt()
     }
 }
 
-// A digit's value, or 16.
-fn hex_digit(b: u8) -> u8 {
+// A digit's value.
+fn hex_digit(b: u8) -> Option<u8>
+    ensures { IfSome result (λ d. d < 16) }
+{
     match b {
-        b'0'..=b'9' => b - b'0',
-        b'a'..=b'f' => b - b'a' + 10,
-        _ => 16,
+        b'0'..=b'9' => Some(b - b'0'),
+        b'a'..=b'f' => Some(b - b'a' + 10),
+        _ => None,
     }
 }

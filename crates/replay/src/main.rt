@@ -44,12 +44,7 @@ fn finish(
 
 // The bytes from one place to another; all where there is no such part.
 fn part(s: &[u8], from: usize, to: usize) -> &[u8] {
-    if from <= to {
-        if to <= s.len() {
-            return &s[from..to];
-        }
-    }
-    s
+    s.get(from..to).unwrap_or(s)
 }
 
 // The next byte of the file.
@@ -83,10 +78,8 @@ fn take(
     bytes: &mut [u8; LONGEST],
 ) -> State {
     let mut now = s;
-    let mut i: usize = 0;
-    while i < piece.len() {
-        now = feed(rt, now, piece[i], numbers, bytes);
-        i += 1;
+    for b in piece {
+        now = feed(rt, now, *b, numbers, bytes);
     }
     now
 }

@@ -1,7 +1,7 @@
 // The calls that are lent bytes as well, by their numbers, and what they leave there.
-use crate::calls::Asked;
 use crate::lists;
-use capi::{lexing, rescuing, stepping, writing};
+use capi::{rescuing, stepping, writing};
+use std::array;
 
 pub const LONGEST_OUTPUT: usize = 1024;
 
@@ -16,99 +16,87 @@ pub(crate) fn ask(
     arg: usize,
     out: &mut [u8],
     answer: &mut [u64],
-) -> Asked {
+) -> Option<u32> {
     if room <= out.len() {
-        return ask_within(call, bytes, arg, &mut out[..room], answer);
+        ask_within(call, bytes, arg, &mut out[..room], answer)
+    } else {
+        None
     }
-    Asked::Nothing
 }
 
 // The numbers go on from those of the other calls.
-fn ask_within(call: u64, bytes: &[u8], arg: usize, out: &mut [u8], answer: &mut [u64]) -> Asked {
+fn ask_within(
+    call: u64,
+    bytes: &[u8],
+    arg: usize,
+    out: &mut [u8],
+    answer: &mut [u64],
+) -> Option<u32> {
     match call {
         29 => write(bytes, arg, out, answer, false),
-        30 => Asked::Code(writing::stivlaheim_normalise(bytes, out, answer)),
-        31 => Asked::Code(writing::stivlaheim_list(bytes, out, answer)),
+        30 => Some(writing::stivlaheim_normalise(bytes, out, answer)),
+        31 => Some(writing::stivlaheim_list(bytes, out, answer)),
         32 => next_token_fast(bytes, out, answer),
         49 => write(bytes, arg, out, answer, true),
-        50 => Asked::Code(writing::stivlaheim_shorten(bytes, out, answer)),
+        50 => Some(writing::stivlaheim_shorten(bytes, out, answer)),
         54 => lists::write(bytes, out, answer),
-        57 => Asked::Code(rescuing::stivlaheim_rescue(bytes, out, answer)),
-        _ => Asked::Nothing,
+        57 => Some(rescuing::stivlaheim_rescue(bytes, out, answer)),
+        _ => None,
     }
 }
 
 // The token's five words stand before the bytes.
-fn write(bytes: &[u8], kind: usize, out: &mut [u8], answer: &mut [u64], shortest: bool) -> Asked {
-    if kind > 0xffff_ffff {
-        return Asked::Nothing;
-    }
-    if bytes.len() < 40 {
-        return Asked::Nothing;
-    }
-    let words = [
-        word(bytes, 0),
-        word(bytes, 8),
-        word(bytes, 16),
-        word(bytes, 24),
-        word(bytes, 32),
-    ];
-    let text = &bytes[40..];
-    if shortest {
-        return Asked::Code(writing::stivlaheim_write_shortest(
-            text,
-            kind as u32,
-            &words,
-            out,
-            answer,
-        ));
-    }
-    Asked::Code(writing::stivlaheim_write(text, kind as u32, &words, out, answer))
+fn write(
+    bytes: &[u8],
+    kind: usize,
+    out: &mut [u8],
+    answer: &mut [u64],
+    shortest: bool,
+) -> Option<u32> {
+    let kind = u32::try_from(kind).ok()?;
+    let (front, text) = bytes.split_at_checked(40)?;
+    let words: [u64; 5] = words(front);
+    Some(if shortest {
+        writing::stivlaheim_write_shortest(text, kind, &words, out, answer)
+    } else {
+        writing::stivlaheim_write(text, kind, &words, out, answer)
+    })
 }
 
-pub(crate) fn word(bytes: &[u8], at: usize) -> u64 {
-    let mut answer = [0u64; 8];
-    lexing::stivlaheim_read_u64(bytes, at, 0, &mut answer);
-    answer[1]
+// The numbers that the bytes spell, eight bytes each, lowest byte first; zeros where there are fewer.
+pub(crate) fn words<const N: usize>(bytes: &[u8]) -> [u64; N] {
+    let (eights, _) = bytes.as_chunks();
+    array::from_fn(|i| match eights.get(i) {
+        Some(eight) => u64::from_le_bytes(*eight),
+        None => 0,
+    })
 }
 
-// A number of four bytes, lowest byte first.
-pub(crate) fn number(bytes: &[u8], at: usize) -> u32 {
-    let mut answer = [0u64; 8];
-    lexing::stivlaheim_read_u32(bytes, at, 0, &mut answer);
-    (answer[1] % 0x1_0000_0000) as u32
+// The same of four bytes each.
+pub(crate) fn numbers<const N: usize>(bytes: &[u8]) -> [u32; N] {
+    let (fours, _) = bytes.as_chunks();
+    array::from_fn(|i| match fours.get(i) {
+        Some(four) => u32::from_le_bytes(*four),
+        None => 0,
+    })
 }
 
 // The held bytes stand before the window.
-fn next_token_fast(bytes: &[u8], held: &mut [u8], answer: &mut [u64]) -> Asked {
-    let n = held.len();
-    if n > bytes.len() {
-        return Asked::Nothing;
-    }
-    copy(bytes, held);
-    Asked::Code(stepping::stivlaheim_next_token_fast(&bytes[n..], held, answer))
+fn next_token_fast(bytes: &[u8], held: &mut [u8], answer: &mut [u64]) -> Option<u32> {
+    let (front, window) = bytes.split_at_checked(held.len())?;
+    copy(front, held);
+    Some(stepping::stivlaheim_next_token_fast(window, held, answer))
 }
 
+// As many of the bytes as there is room for; those after them are as the lent ones.
 pub(crate) fn copy(from: &[u8], to: &mut [u8]) {
-    let mut i: usize = 0;
-    while i < to.len() {
-        to[i] = or_lent(from, i);
-        i += 1;
-    }
+    let len = from.len().min(to.len());
+    to[..len].copy_from_slice(&from[..len]);
+    to[len..].fill(LENT);
 }
 
 // The bytes are those of the output, and after them as they were.
 pub(crate) fn same_output(output: &[u8], out: &[u8; LONGEST_OUTPUT]) -> bool {
-    let mut i: usize = 0;
-    while i < LONGEST_OUTPUT {
-        if out[i] != or_lent(output, i) {
-            return false;
-        }
-        i += 1;
-    }
-    true
-}
-
-fn or_lent(bytes: &[u8], i: usize) -> u8 {
-    if i < bytes.len() { bytes[i] } else { LENT }
+    let len = output.len().min(LONGEST_OUTPUT);
+    out[..len] == output[..len] && out[len..].iter().all(|b| *b == LENT)
 }

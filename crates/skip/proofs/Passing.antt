@@ -17,6 +17,10 @@ use Rattle.laws.proofs.Lookups.{plain-after, compact-in, negated-in}
 use Rattle.laws.proofs.Places.{at_next, at-giving}
 use Rattle.laws.proofs.SkipSteps.{pass-number, pass-text, pass-colour}
 use Rattle.laws.proofs.Elsewhere.{each_id, listed, MissedAll, elsewhere}
+use Rattle.std.specs.Prelude.{Result, Ok, Err}
+use Rattle.payload.specs.Answers.{text_of, read_as}
+use Rattle.payload.specs.declared.answers.Eof.{Eof}
+use Rattle.payload.specs.declared.answers.Text.{Text}
 use Rattle.skip.specs.Walks.{span, steps_over}
 
 -- ---- past what a walk steps over after an id
@@ -40,6 +44,12 @@ unfolding placed mapped
 placed_past f (found a n) = refl
 placed_past f (refused why) = refl
 
+-- of a read's own value nothing is kept
+read-past : {V : Type 0} (r : Result (V × ℕ) Eof) → read_as (λ _. tt {0}) r ≡ mapped (λ _. tt) (read_as (λ x. x) r)
+unfolding mapped
+read-past (Ok x) = refl
+read-past (Err e) = refl
+
 module _ (i : ℕ) (s : List ℕ) (p : ℕ) where
   past-nothing : crossed (some 0) s p ≡ found tt p
   unfolding crossed mapped
@@ -55,22 +65,14 @@ module _ (i : ℕ) (s : List ℕ) (p : ℕ) where
       go colour h = pass-colour i s p h ∙ sym past-nothing
 
   -- in an arm of a `match`: by the place of the bytes
-  pub passed : {B : Type 0} (f : ℕ → List ℕ → B) (o : Option ℕ) → steps_over i ≡ o → {x : Answer B} → x ≡ placed f (stood o s p) → mapped (λ _. tt) x ≡ passing i s p
+  pub passed : (o : Option ℕ) → steps_over i ≡ o → (r : Result (Text × ℕ) Eof)
+      → read_as (λ x. x) r ≡ placed text_of (stood o s p) → read_as (λ _. tt) r ≡ passing i s p
   unfolding crossed
-  passed f o e q = ap (mapped (λ _. tt)) q ∙ placed_past f (stood o s p) ∙ sym (crossing ∙ ap (λ x. crossed x s p) e)
+  passed o e r q =
+      read-past r ∙ ap (mapped (λ _. tt)) q ∙ placed_past text_of (stood o s p) ∙ sym (crossing ∙ ap (λ x. crossed x s p) e)
 
   pub passed-nothing : steps_over i ≡ some 0 → found tt p ≡ passing i s p
   passed-nothing e = sym (crossing ∙ ap (λ x. crossed x s p) e ∙ past-nothing)
-
--- what the walk learns from the answer: the place after, or the leaf's own refusal
-module _ {B : Type 0} {x : Answer B} {a : Answer (Unit {0})} (e : mapped (λ _. tt) x ≡ a) where
-  pub got : {b : B} {n : ℕ} → x ≡ found b n → a ≡ found tt n
-  unfolding mapped
-  got q = sym e ∙ ap (mapped (λ _. tt)) q
-
-  pub got-not : {why : Fault} → x ≡ refused why → a ≡ refused why
-  unfolding mapped
-  got-not q = sym e ∙ ap (mapped (λ _. tt)) q
 
 -- ---- the default of a `match`
 

@@ -8,7 +8,6 @@ use lib.ListN.{length, length-drop}
 use lib.Dec.{eqb, leb}
 use borrow.Author.Tests.{eqb-true, ne_eqb, le-leb, leb-false}
 use Rattle.form.specs.Numbers.{pick}
-use Rattle.form.specs.Values.{Value}
 use Rattle.form.specs.Ids.{OPEN, CLOSE}
 use Rattle.form.specs.Table.{Payload, number, text, colour, table, entries, find, or_plain, after}
 use Rattle.form.specs.Refusals.{Fault}
@@ -19,6 +18,14 @@ use Rattle.laws.proofs.Lookups.{open_is, close-is, plain-after}
 use Rattle.laws.proofs.Places.{took}
 use Rattle.laws.proofs.SkipSteps.{cut-id, cut-payload, turn, turned-open, turned_up, turned_on}
 use Rattle.laws.proofs.Elsewhere.{elsewhere}
+use Rattle.lexeme.specs.declared.LexemeId.{LexemeId}
+use Rattle.std.specs.Prelude.{Result, Ok, Err}
+use Rattle.payload.specs.Answers.{fault_of, read_as, lexed_as, colour_of}
+use Rattle.payload.specs.declared.answers.Eof.{Eof}
+use Rattle.payload.specs.declared.answers.LexError.{LexError}
+use Rattle.payload.specs.declared.answers.LexError.TheVariants.{Eof as Lacks}
+use Rattle.payload.specs.declared.answers.LexErrorAt.{LexErrorAt}
+use Rattle.payload.specs.declared.answers.Rgb.{Rgb}
 use Rattle.skip.specs.Walks.{steps_over, walk_from, walk_after, Turned}
 use Rattle.skip.specs.declared.walk.Turn.{Turn}
 use Rattle.skip.specs.declared.walk.Turn.TheVariants.{On}
@@ -142,23 +149,35 @@ module _ (i : ℕ) (s : List ℕ) (p : ℕ) (is : eqb i 0x0243 ≡ true) where
   unfolding skip_value after or_plain find entries table payload
   colour-is = rw (eqb-true i 0x0243 is, open_is)
 
-  pub past-colour : {v : Value} {n : ℕ} → at rgb s p ≡ found v n → skip_value i s p ≡ past n
-  unfolding or_stop
-  past-colour e = colour-is ∙ rw e
+  -- by what the code reads there
+  module _ {r : Result (Rgb × ℕ) LexError} (k : lexed_as colour_of r ≡ at rgb s p) where
+    pub past-colour : {x : Rgb} {n : ℕ} → r ≡ Ok (x, n) → past n ≡ skip_value i s p
+    unfolding or_stop
+    past-colour e = sym (colour-is ∙ rw (sym k, e))
 
-  pub no-colour : {why : Fault} → at rgb s p ≡ refused why → skip_value i s p ≡ stopped why p
-  unfolding or_stop
-  no-colour e = colour-is ∙ rw e
+    pub no-colour : {e : LexError} {d : LexErrorAt} → r ≡ Err e → d ≡ record { at = p; kind = e } → stopped (fault_of d.kind) d.at ≡ skip_value i s p
+    unfolding or_stop
+    no-colour h f = rw f (sym (colour-is ∙ rw (sym k, h)))
 
 -- ---- what a contract says of a turn whose answer is known
 
-pub known : (i d : ℕ) (s : List ℕ) (p : ℕ) {r t : Turn} → Turned i d s p r → r ≡ t → Turned i d s p t
+pub known : (i d : ℕ) (s : List ℕ) (p : ℕ) {r t : Result Turn Eof} → Turned i d s p r → r ≡ t → Turned i d s p t
 known i d s p m q = subst (Turned i d s p) q m
 
+-- the error that `cut` makes
+abbrev pub cut_at : ℕ → Eof → LexErrorAt
+cut_at p e = record { at = p; kind = Lacks e.0 }
+
+-- of a turn that was refused
+pub refused-turn : (i d : ℕ) (s : List ℕ) (p : ℕ) {r : Result Turn Eof} {e : Eof} {x : LexErrorAt}
+    → Turned i d s p r → r ≡ Err e → x ≡ cut_at p e → stopped (fault_of x.kind) x.at ≡ walk_after i d s p
+refused-turn i d s p t h f = rw f (known i d s p t h).answer
+
 -- after a turn that goes on: the next id is not there, or it is
-module _ (i d : ℕ) (s : List ℕ) (p : ℕ) {n e : ℕ} (t : Turned i d s p (On n e)) where
-  pub ends : {why : Fault} → at (num 2) s n ≡ refused why → stopped why n ≡ walk_after i d s p
-  ends h = sym (no-id e s n t.moves.1 h) ∙ t.answer
+module _ (i d : ℕ) (s : List ℕ) (p : ℕ) {n e : ℕ} (t : Turned i d s p (Ok (On n e))) where
+  pub ends : {r : Result (LexemeId × ℕ) Eof} {k : Eof} {x : LexErrorAt} → read_as (λ y. y.0) r ≡ at (num 2) s n → r ≡ Err k → x ≡ cut_at n k
+      → stopped (fault_of x.kind) x.at ≡ walk_after i d s p
+  ends q h f = rw f (sym (no-id e s n t.moves.1 (sym q ∙ rw h)) ∙ t.answer)
 
   pub goes_on : {j m : ℕ} → at (num 2) s n ≡ found j m → (2 * e ≤ m) × (walk_after j e s m ≡ walk_after i d s p) × (length s - m < length s - p)
   goes_on h =

@@ -1,22 +1,20 @@
 // The walk: ids and what follows them, with a depth.
 ghost use Rattle.std.specs.Prelude.{◌≡◌, ◌*◌, ◌≤◌};
 ghost use Rattle.std.proofs.Math.Option.{some};
-ghost use Rattle.form.specs.Readers.{mapped};
 ghost use Rattle.form.specs.Skipping.{passing};
-ghost use Rattle.payload.specs.Answers.{text_answer};
+ghost use Rattle.payload.specs.Answers.{read_as};
+ghost use Rattle.payload.specs.declared.answers.LexError.TheVariants.{Eof as Lacks};
 ghost use Rattle.skip.specs.Skips.{skip_answer};
 ghost use Rattle.skip.specs.Walks.{steps_over, walk_after, Turned};
 
-use crate::Skipped;
 use lexeme::{LexemeId, number};
-use payload::{LexError, ReadId, ReadString};
+use payload::{Eof, LexError, LexErrorAt, Read, Text};
 
-// After an id and its payload: on at a depth, out of the value that the walk began with, or the payload's refusal.
+// After an id and its payload: on at a depth, or out of the value that the walk began with.
 #[derive(Clone, Copy)]
 enum Turn {
     On(usize, u64),
     Out(usize),
-    Refused(LexError),
 }
 
 // How many bytes a compact number has after its id: by arithmetic, so that the widths are no jump.
@@ -30,8 +28,8 @@ fn compact_width(id: LexemeId) -> usize
 
 // Where the payload of an id stands; a colour's id stands alone. It has one caller, and no arm has two neighbouring numbers, so that it
 // compiles to jump tables in the caller's loop. The compact numbers come last, by their width.
-fn skip_payload(bytes: &[u8], at: usize, id: LexemeId) -> ReadString
-    ensures { mapped (λ _. tt) (text_answer result) ≡ passing id.0 bytes.now at }
+fn skip_payload(bytes: &[u8], at: usize, id: LexemeId) -> Read<Text>
+    ensures { read_as (λ _. tt) result ≡ passing id.0 bytes.now at }
 {
     let n = id.0;
     match n {
@@ -65,7 +63,7 @@ fn skip_payload(bytes: &[u8], at: usize, id: LexemeId) -> ReadString
 }
 
 // Over what the id just before the place starts.
-fn over(bytes: &[u8], at: usize, id: LexemeId, depth: u64) -> Turn
+fn over(bytes: &[u8], at: usize, id: LexemeId, depth: u64) -> Result<Turn, Eof>
     requires { 2 * depth ≤ at }
     ensures { Turned id.0 depth bytes.now at result }
 {
@@ -73,53 +71,49 @@ fn over(bytes: &[u8], at: usize, id: LexemeId, depth: u64) -> Turn
     match n {
         number::OPEN => {
             let deeper = depth + 1;
-            Turn::On(at, deeper)
+            Ok(Turn::On(at, deeper))
         }
         number::CLOSE => {
             if depth < 2 {
-                return Turn::Out(at);
+                return Ok(Turn::Out(at));
             }
             let higher = depth - 1;
-            Turn::On(at, higher)
+            Ok(Turn::On(at, higher))
         }
         _ => {
-            let passed = skip_payload(bytes, at, id);
-            let ReadString::Got(_, end) = passed else {
-                return Turn::Refused(LexError::Eof(passed.missing()));
-            };
+            let (_, end) = skip_payload(bytes, at, id)?;
             if depth == 0 {
-                return Turn::Out(end);
+                return Ok(Turn::Out(end));
             }
-            Turn::On(end, depth)
+            Ok(Turn::On(end, depth))
         }
     }
 }
 
+// The bytes of what begins at a place end too early.
+fn cut(e: Eof, at: usize) -> LexErrorAt
+    ensures { result ≡ record { at = at; kind = Lacks e.0 } }
+{
+    LexErrorAt {
+        at,
+        kind: LexError::from(e),
+    }
+}
+
 // From the id that stands just before the place to the end of the value that it starts.
-pub(crate) fn skip_from(bytes: &[u8], start: usize, first: LexemeId) -> Skipped
+pub(crate) fn skip_from(bytes: &[u8], start: usize, first: LexemeId) -> Result<usize, LexErrorAt>
     ensures { skip_answer result ≡ walk_after first.0 0 bytes.now start }
 {
     let mut at = start;
     let mut id = first;
     let mut depth: u64 = 0;
     loop {
-        let turn = over(bytes, at, id, depth);
-        match turn {
+        match over(bytes, at, id, depth).map_err(|e| cut(e, at))? {
             Turn::On(end, inner) => {
-                let read = payload::read_id(bytes, end);
-                let ReadId::Got(lexeme, next) = read else {
-                    return Skipped::Refused(LexError::Eof(read.missing()), end);
-                };
-                at = next;
-                id = lexeme;
+                (id, at) = payload::read_id(bytes, end).map_err(|e| cut(e, end))?;
                 depth = inner;
             }
-            Turn::Out(end) => {
-                return Skipped::To(end);
-            }
-            Turn::Refused(e) => {
-                return Skipped::Refused(e, at);
-            }
+            Turn::Out(end) => return Ok(end),
         }
     }
 }

@@ -8,56 +8,47 @@ use lib.Dec.{leb}
 use lib.ListN.{length, take, drop, length-drop}
 use lib.Seq.{sets, length-sets}
 use borrow.Author.Tests.{le-leb, lt-leb, leb-true}
-use Rattle.form.specs.Numbers.{pick}
+use Rattle.form.specs.Numbers.{pick, MAX}
 use Rattle.form.specs.Refusals.{Refusal, Eof, BufferTooSmall, ReadFailed, BadPlace}
 use Rattle.laws.proofs.Runs.{part_length}
 use Rattle.source.specs.declared.ParserSource.{ParserSource}
-use Rattle.source.specs.declared.Check.{Check}
-use Rattle.source.specs.declared.Check.TheVariants.{Fine, Bad}
+use Rattle.std.specs.Prelude.{Ok, Err, Option as MayBe, Some, None}
 use Rattle.source.specs.declared.reads.Reads.{Reads}
 use Rattle.source.specs.Reads.{one, fill}
-use Rattle.source.specs.Window.{unread, unread_in, held_in, checked, checked_in, read_past, filled, filled_in, Drawn, drawn, halted, Draw, fitting, if_fine, if_given, topped_by, topped, ensured, once_by, once, refilled, advanced, window, window_len, window_of}
+use Rattle.source.specs.Window.{unread, unread_in, held_in, checked, checked_in, read_past, filled, filled_in, Drawn, drawn, halted, Draw, fitting, if_fine, if_given, topped_by, topped, ensured, once_by, once, refilled, advanced, window_len, window_of}
+use Rattle.source.specs.declared.answers.ParserError.TheVariants as E
+use Rattle.source.specs.declared.answers.Stop.{Stop}
+use Rattle.source.specs.Answers.{stop_answer, refusal_of, judged}
 use Rattle.source.specs.Good.{Good}
-use Rattle.source.proofs.Stores.{sets_then}
+use Rattle.laws.proofs.Never.{never}
+use borrow.Rule.Slice.PartMut.{put_mid}
+use Rattle.source.proofs.Stores.{sets_then, onwards, onwards-is, put_tail}
 use Rattle.source.proofs.Filling.{Within, one-within, fill-within}
 use Rattle.source.proofs.States.{good}
 
+-- what the code's check found: all numbers fit, or one does not
+fits : (s : ParserSource) (k : MayBe ℕ) → Ok tt ≡ judged s k → k ≡ None
+unfolding judged
+fits s None e = refl
+fits s (Some p) e = never (cc)
+
+record Misfit (s : ParserSource) (k : MayBe ℕ) (x : Stop) : Type 0 where
+  place : ℕ
+  is : k ≡ Some place
+  stop : x ≡ record { error = E.BadPlace place; next = s }
+
+misfit : (s : ParserSource) (k : MayBe ℕ) (x : Stop) → Err x ≡ judged s k → Misfit s k x
+unfolding judged
+misfit s None x e = never (cc)
+misfit s (Some p) x e = record { place = p; is = refl; stop = cc }
+
 module _ (supply schedule : List ℕ) (s : ParserSource) (buffer : List ℕ) where
-  pub stream-checked : s.streaming ≡ true → checked_in supply schedule s buffer ≡ checked s (length buffer) (length supply) (length schedule)
+  stream-checked : s.streaming ≡ true → checked_in supply schedule s buffer ≡ checked s (length buffer) (length supply) (length schedule)
   stream-checked t = ap (λ (b : Bool). checked s (length (pick b buffer supply)) (length supply) (length schedule)) t
 
-  pub slice-checked : s.streaming ≡ false → checked_in supply schedule s buffer ≡ checked s (length supply) (length supply) (length schedule)
-  slice-checked t = ap (λ (b : Bool). checked s (length (pick b buffer supply)) (length supply) (length schedule)) t
-
-  -- a number that does not fit
-  unfit : {A : Type 0} (f : Draw A) {p : ℕ} → checked_in supply schedule s buffer ≡ Bad p → fitting supply schedule f s buffer ≡ halted (BadPlace p) s buffer
-  unfolding fitting if_fine
-  unfit f e = rw e
-
-  module _ {p : ℕ} (e : checked_in supply schedule s buffer ≡ Bad p) where
-    pub ensured-bad : (n : ℕ) → ensured supply schedule n s buffer ≡ halted (BadPlace p) s buffer
-    unfolding ensured
-    ensured-bad n = unfit _ e
-
-    pub refilled-bad : refilled supply schedule s buffer ≡ halted (BadPlace p) s buffer
-    unfolding refilled
-    refilled-bad = unfit _ e
-
-    pub advanced-bad : (n : ℕ) → advanced supply schedule n s buffer ≡ halted (BadPlace p) s buffer
-    unfolding advanced
-    advanced-bad n = unfit _ e
-
-    pub window-len-bad : window_len supply schedule s buffer ≡ halted (BadPlace p) s buffer
-    unfolding window_len
-    window-len-bad = unfit _ e
-
-    pub window-part-bad : window_of supply schedule s buffer ≡ []
-    unfolding window_of if_given
-    window-part-bad = rw window-len-bad
-
-  -- all of them fit
-  module _ (e : checked_in supply schedule s buffer ≡ Fine) where
-    pub fit : {A : Type 0} (f : Draw A) → fitting supply schedule f s buffer ≡ f s buffer
+  -- all numbers fit
+  module _ (e : checked_in supply schedule s buffer ≡ None) where
+    fit : {A : Type 0} (f : Draw A) → fitting supply schedule f s buffer ≡ f s buffer
     unfolding fitting if_fine
     fit f = rw e
 
@@ -67,99 +58,123 @@ module _ (supply schedule : List ℕ) (s : ParserSource) (buffer : List ℕ) whe
     pub held : Good s (length (held_in supply s buffer)) (length supply) (length schedule)
     held = good s (length (held_in supply s buffer)) (length supply) (length schedule) e
 
-    pub ordered : s.start ≤ s.end
-    ordered = held.ordered
+  bad : {A : Type 0} (f : Draw A) (p : ℕ) → checked_in supply schedule s buffer ≡ Some p → halted (BadPlace p) s buffer ≡ fitting supply schedule f s buffer
+  unfolding fitting if_fine
+  bad f p e = rw e
+
+  -- the check refuses
+  module _ {x : Stop} (e : Err x ≡ judged s (checked_in supply schedule s buffer)) where
+    unfit : {A : Type 0} (f : Draw A) → stop_answer x buffer ≡ fitting supply schedule f s buffer
+    unfit {A} f = let m = misfit _ _ _ e in ap (λ (y : Stop). stop_answer {A = A} y buffer) m.stop ∙ bad f m.place m.is
+
+    pub ensured_bad : (n : ℕ) → stop_answer x buffer ≡ ensured supply schedule n s buffer
+    unfolding ensured
+    ensured_bad n = unfit _
+
+    pub refilled_bad : stop_answer x buffer ≡ refilled supply schedule s buffer
+    unfolding refilled
+    refilled_bad = unfit _
+
+    pub advanced_bad : (n : ℕ) → stop_answer x buffer ≡ advanced supply schedule n s buffer
+    unfolding advanced
+    advanced_bad n = unfit _
+
+    pub window_len_bad : halted (refusal_of x.error) s buffer ≡ window_len supply schedule s buffer
+    unfolding window_len
+    window_len_bad =
+        let h : x.next ≡ s = ap (λ (y : Stop). y.next) (misfit _ _ _ e).stop in
+        ap (λ (t : ParserSource). halted (refusal_of x.error) t buffer) (sym h) ∙ unfit _
+
+    pub window_bad : [] ≡ window_of supply schedule s buffer
+    unfolding window_of if_given
+    window_bad = rw (← window_len_bad)
+
+  -- the check passes
+  module _ (e : Ok tt ≡ judged s (checked_in supply schedule s buffer)) where
+    passed : checked_in supply schedule s buffer ≡ None
+    passed = fits s (checked_in supply schedule s buffer) e
+
+    pub checked_ordered : s.start ≤ s.end
+    checked_ordered = (held passed).ordered
+
+    pub checked_within : s.end ≤ length (held_in supply s buffer)
+    checked_within = (held passed).within
+
+    pub checked_position : s.position + unread s ≤ MAX
+    checked_position = omega (arith, held passed)
+
+    pub checked_sound : s.streaming ≡ true → Good s (length buffer) (length supply) (length schedule)
+    checked_sound t = sound passed t
 
     module _ (n : ℕ) where
-      pub ensured-enough : n ≤ unread s → ensured supply schedule n s buffer ≡ drawn tt s buffer
+      pub ensured_enough : n ≤ unread s → drawn tt s buffer ≡ ensured supply schedule n s buffer
       unfolding ensured
-      ensured-enough h = fit _ ∙ rw (le-leb _ _ h)
+      ensured_enough h = sym (fit passed _ ∙ rw (le-leb _ _ h))
 
       module _ (h : unread s < n) where
-        pub ensured-slice : s.streaming ≡ false → ensured supply schedule n s buffer ≡ halted (Eof s.position (n - unread s)) s buffer
+        pub ensured_slice : s.streaming ≡ false → halted (Eof s.position (n - unread s)) s buffer ≡ ensured supply schedule n s buffer
         unfolding ensured
-        ensured-slice t = fit _ ∙ rw (lt-leb _ _ h, t)
+        ensured_slice t = sym (fit passed _ ∙ rw (lt-leb _ _ h, t))
 
-        pub ensured-small : s.streaming ≡ true → length buffer < n → ensured supply schedule n s buffer ≡ halted (BufferTooSmall s.position) s buffer
+        pub ensured_small : s.streaming ≡ true → length buffer < n → halted (BufferTooSmall s.position) s buffer ≡ ensured supply schedule n s buffer
         unfolding ensured
-        ensured-small t o = fit _ ∙ rw (lt-leb _ _ h, t, lt-leb _ _ o)
+        ensured_small t o = sym (fit passed _ ∙ rw (lt-leb _ _ h, t, lt-leb _ _ o))
 
-        pub ensured-go : s.streaming ≡ true → n ≤ length buffer → ensured supply schedule n s buffer ≡ topped supply schedule n s buffer
+        pub ensured_go : s.streaming ≡ true → n ≤ length buffer → topped supply schedule n s buffer ≡ ensured supply schedule n s buffer
         unfolding ensured
-        ensured-go t o = fit _ ∙ rw (lt-leb _ _ h, t, le-leb _ _ o)
+        ensured_go t o = sym (fit passed _ ∙ rw (lt-leb _ _ h, t, le-leb _ _ o))
 
-      pub advanced-on : n ≤ unread s → advanced supply schedule n s buffer ≡ drawn true (read_past n s) buffer
+      pub advanced_on : n ≤ unread s → drawn true (read_past n s) buffer ≡ advanced supply schedule n s buffer
       unfolding advanced
-      advanced-on h = fit _ ∙ rw (le-leb _ _ h)
+      advanced_on h = sym (fit passed _ ∙ rw (le-leb _ _ h))
 
-      pub advanced-not : unread s < n → advanced supply schedule n s buffer ≡ drawn false s buffer
+      pub advanced_not : unread s < n → drawn false s buffer ≡ advanced supply schedule n s buffer
       unfolding advanced
-      advanced-not h = fit _ ∙ rw (lt-leb _ _ h)
+      advanced_not h = sym (fit passed _ ∙ rw (lt-leb _ _ h))
 
-    pub refilled-slice : s.streaming ≡ false → refilled supply schedule s buffer ≡ drawn 0 s buffer
+    pub refilled_slice : s.streaming ≡ false → drawn 0 s buffer ≡ refilled supply schedule s buffer
     unfolding refilled
-    refilled-slice t = fit _ ∙ rw t
+    refilled_slice t = sym (fit passed _ ∙ rw t)
 
-    pub refilled-small : s.streaming ≡ true → length buffer ≤ unread s → refilled supply schedule s buffer ≡ halted (BufferTooSmall s.position) s buffer
+    pub refilled_small : s.streaming ≡ true → length buffer ≤ unread s → halted (BufferTooSmall s.position) s buffer ≡ refilled supply schedule s buffer
     unfolding refilled
-    refilled-small t o = fit _ ∙ rw (t, le-leb _ _ o)
+    refilled_small t o = sym (fit passed _ ∙ rw (t, le-leb _ _ o))
 
-    pub refilled-go : s.streaming ≡ true → unread s < length buffer → refilled supply schedule s buffer ≡ once supply schedule s buffer
+    pub refilled_go : s.streaming ≡ true → unread s < length buffer → once supply schedule s buffer ≡ refilled supply schedule s buffer
     unfolding refilled
-    refilled-go t o = fit _ ∙ rw (t, lt-leb _ _ o)
+    refilled_go t o = sym (fit passed _ ∙ rw (t, lt-leb _ _ o))
 
-    pub window-len : window_len supply schedule s buffer ≡ drawn (unread s) s buffer
+    pub window_len_fine : drawn (unread s) s buffer ≡ window_len supply schedule s buffer
     unfolding window_len
-    window-len = fit _
+    window_len_fine = sym (fit passed _)
 
-    pub window-part : window_of supply schedule s buffer ≡ window supply s buffer
+    pub window_fine : unread_in s (held_in supply s buffer) ≡ window_of supply schedule s buffer
     unfolding window_of if_given
-    window-part = rw window-len
+    window_fine = rw (← window_len_fine)
 
--- the unread bytes are moved, d; reads give r and leave the buffer at `last`
-module _ (supply schedule : List ℕ) (s : ParserSource) (buffer : List ℕ) (g : Good s (length buffer) (length supply) (length schedule))
-    (d last : List ℕ) (r : Reads) (next : ParserSource) (hd : d ≡ sets buffer 0 (unread_in s buffer))
-    (hl : last ≡ sets d (unread s) (take r.got (drop s.supply supply))) (hn : next ≡ filled s r) where
-  long : length d ≡ length buffer
-  long = ap length hd ∙ length-sets buffer 0 (unread_in s buffer)
-
-  bytes : last ≡ filled_in supply s r buffer
-  bytes =
-      let w = part_length buffer s.start (unread s) (omega (arith, g)) in
-      hl ∙ ap (λ (l : List ℕ). sets l (unread s) (take r.got (drop s.supply supply))) hd
-      ∙ sets_then (unread_in s buffer) (take r.got (drop s.supply supply)) buffer 0 (unread s) (omega (arith, w))
-
-  module _ (n : ℕ) (hr : r ≡ fill (length d - unread s) (length supply - s.supply) (drop s.schedule schedule)) where
-    all : topped supply schedule n s buffer ≡ topped_by supply n s buffer r
-    unfolding topped
-    all = ap (topped_by supply n s buffer) (sym (rw long at hr))
-
-    pub topped-failed : r.failed ≡ true → halted (ReadFailed s.position) next last ≡ topped supply schedule n s buffer
-    unfolding topped_by
-    topped-failed h = sym (all ∙ rw (h, ← hn, ← bytes))
-
-    pub topped-short : r.failed ≡ false → next.end < n → halted (Eof s.position (n - next.end)) next last ≡ topped supply schedule n s buffer
-    unfolding topped_by
-    topped-short h o =
-        let l : next.end ≡ unread s + r.got = ap (λ (x : ParserSource). x.end) hn in
-        sym (all ∙ rw (h, lt-leb n (unread s + r.got) (omega arith), ← hn, ← bytes, l))
-
-    pub topped-ready : r.failed ≡ false → n ≤ next.end → drawn tt next last ≡ topped supply schedule n s buffer
-    unfolding topped_by
-    topped-ready h o = sym (all ∙ rw (h, le-leb n (unread s + r.got) (omega (arith, ap (λ (x : ParserSource). x.end) hn)), ← hn, ← bytes))
-
-  module _ (hr : r ≡ one (length d - unread s) (length supply - s.supply) (drop s.schedule schedule)) where
-    single : once supply schedule s buffer ≡ once_by supply s buffer r
-    unfolding once
-    single = ap (once_by supply s buffer) (sym (rw long at hr))
-
-    pub once-failed : r.failed ≡ true → halted (ReadFailed s.position) next last ≡ once supply schedule s buffer
-    unfolding once_by
-    once-failed h = sym (single ∙ rw (h, ← hn, ← bytes))
-
-    pub once-read : r.failed ≡ false → drawn r.got next last ≡ once supply schedule s buffer
-    unfolding once_by
-    once-read h = sym (single ∙ rw (h, ← hn, ← bytes))
+-- what the goals of the calls that check first are found by
+pub ruleset checks = (
+  checked_ordered,
+  checked_within,
+  checked_position,
+  checked_sound,
+  ensured_bad,
+  ensured_enough,
+  ensured_slice,
+  ensured_small,
+  ensured_go,
+  refilled_bad,
+  refilled_slice,
+  refilled_small,
+  refilled_go,
+  advanced_bad,
+  advanced_on,
+  advanced_not,
+  window_len_bad,
+  window_len_fine,
+  window_bad,
+  window_fine,
+)
 
 -- reads that begin at the end of the window stay within the supply and the schedule
 module _ (s : ParserSource) (held supply : ℕ) (schedule : List ℕ) where
@@ -168,6 +183,74 @@ module _ (s : ParserSource) (held supply : ℕ) (schedule : List ℕ) where
 
   pub one-fits : Within (held - unread s) (supply - s.supply) (length schedule - s.schedule) (one (held - unread s) (supply - s.supply) (drop s.schedule schedule))
   one-fits = rw (length-drop s.schedule schedule) at (one-within (held - unread s) (supply - s.supply) (drop s.schedule schedule))
+
+-- the unread bytes are moved, d, and reads into what is left of it give r
+module _ (supply schedule : List ℕ) (s : ParserSource) (d : List ℕ) (r : Reads) where
+  abbrev Left : (ℕ → ℕ → List ℕ → Reads) → Type 0
+  Left reads = r ≡ reads (length (onwards d (unread s))) (length (onwards supply s.supply)) (onwards schedule s.schedule)
+
+  placed : (reads : ℕ → ℕ → List ℕ → Reads) → Left reads → r ≡ reads (length d - unread s) (length supply - s.supply) (drop s.schedule schedule)
+  placed reads q =
+      rw (onwards-is d (unread s), onwards-is supply s.supply, onwards-is schedule s.schedule, length-drop (unread s) d, length-drop s.supply supply) at q
+
+  abbrev Stay : Type 0
+  Stay = Within (length d - unread s) (length supply - s.supply) (length schedule - s.schedule) r
+
+  pub fill-there : Left fill → Stay
+  fill-there q = rw (placed fill q) (fill-fits s (length d) (length supply) schedule)
+
+  pub one-there : Left one → Stay
+  one-there q = rw (placed one q) (one-fits s (length d) (length supply) schedule)
+
+  -- they leave `part` there
+  module _ (buffer : List ℕ) (g : Good s (length buffer) (length supply) (length schedule)) (part : List ℕ) (next : ParserSource)
+      (hd : d ≡ sets buffer 0 (unread_in s buffer)) (w : part ≡ sets (onwards d (unread s)) 0 (take r.got (onwards supply s.supply))) (hn : next ≡ filled s r) where
+    long : length d ≡ length buffer
+    long = ap length hd ∙ length-sets buffer 0 (unread_in s buffer)
+
+    abbrev last : List ℕ
+    last = put_mid (unread s) (length d - unread s) d part
+
+    bytes : Stay → last ≡ filled_in supply s r buffer
+    bytes v =
+        let X = take r.got (drop s.supply supply) in
+        let m = part_length buffer s.start (unread s) (omega (arith, g)) in
+        let l = part_length supply s.supply r.got (omega (arith, v.there)) in
+        put_tail d X part (unread s) (rw (onwards-is supply s.supply) at w) (omega (arith, l, v.fits, long, g))
+        ∙ ap (λ (l : List ℕ). sets l (unread s) X) hd ∙ sets_then (unread_in s buffer) X buffer 0 (unread s) (omega (arith, m))
+
+    module _ (n : ℕ) (q : Left fill) where
+      all : topped supply schedule n s buffer ≡ topped_by supply n s buffer r
+      unfolding topped
+      all = ap (topped_by supply n s buffer) (sym (rw long at (placed fill q)))
+
+      pub topped_failed : r.failed ≡ true → halted (ReadFailed s.position) next last ≡ topped supply schedule n s buffer
+      unfolding topped_by
+      topped_failed h = sym (all ∙ rw (h, ← hn, ← bytes (fill-there q)))
+
+      pub topped_short : r.failed ≡ false → next.end < n → halted (Eof s.position (n - next.end)) next last ≡ topped supply schedule n s buffer
+      unfolding topped_by
+      topped_short h o =
+          let l : next.end ≡ unread s + r.got = ap (λ (x : ParserSource). x.end) hn in
+          sym (all ∙ rw (h, lt-leb n (unread s + r.got) (omega arith), ← hn, ← bytes (fill-there q), l))
+
+      pub topped_ready : r.failed ≡ false → n ≤ next.end → drawn tt next last ≡ topped supply schedule n s buffer
+      unfolding topped_by
+      topped_ready h o =
+          sym (all ∙ rw (h, le-leb n (unread s + r.got) (omega (arith, ap (λ (x : ParserSource). x.end) hn)), ← hn, ← bytes (fill-there q)))
+
+    module _ (q : Left one) where
+      single : once supply schedule s buffer ≡ once_by supply s buffer r
+      unfolding once
+      single = ap (once_by supply s buffer) (sym (rw long at (placed one q)))
+
+      pub once_failed : r.failed ≡ true → halted (ReadFailed s.position) next last ≡ once supply schedule s buffer
+      unfolding once_by
+      once_failed h = sym (single ∙ rw (h, ← hn, ← bytes (one-there q)))
+
+      pub once_read : r.failed ≡ false → drawn r.got next last ≡ once supply schedule s buffer
+      unfolding once_by
+      once_read h = sym (single ∙ rw (h, ← hn, ← bytes (one-there q)))
 
 -- ---- what holds in each case holds of what is left
 
@@ -178,15 +261,15 @@ module _ {A : Type 0} (P : Drawn A → Type 0) where
 
 module _ (supply schedule : List ℕ) (s : ParserSource) (buffer : List ℕ) where
   abbrev pub Fits : Type 0
-  Fits = checked_in supply schedule s buffer ≡ Fine
+  Fits = checked_in supply schedule s buffer ≡ None
 
   pub by-check : {A : Type 0} (P : Drawn A → Type 0) (f : Draw A) → ((p : ℕ) → P (halted (BadPlace p) s buffer)) → (Fits → P (f s buffer)) → P (fitting supply schedule f s buffer)
   unfolding fitting if_fine
   by-check P f bad fine = go (checked_in supply schedule s buffer) refl
     where
-      go : (k : Check) → checked_in supply schedule s buffer ≡ k → P (if_fine k s buffer (f s buffer))
-      go Fine e = fine e
-      go (Bad p) e = bad p
+      go : (k : MayBe ℕ) → checked_in supply schedule s buffer ≡ k → P (if_fine k s buffer (f s buffer))
+      go None e = fine e
+      go (Some p) e = bad p
 
   module _ (n : ℕ) (P : Drawn (Unit {0}) → Type 0) (bad : (p : ℕ) → P (halted (BadPlace p) s buffer))
       (enough : Fits → n ≤ unread s → P (drawn tt s buffer)) (none : Fits → (e : Refusal) → P (halted e s buffer)) where

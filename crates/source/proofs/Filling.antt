@@ -3,28 +3,32 @@ use mathlib.Core.Path.{◌≡◌, refl, sym, ap, ◌∙◌}
 use mathlib.Core.Bool.{Bool, true, false}
 use mathlib.Core.List.{List, [], ◌∷◌}
 use Prim.Native.Nat.{ℕ, suc, ◌+◌, ◌-◌, ◌≤◌, ◌<◌, min}
-use native.Mathlib.Nat.{add-zero, zero-add, add_assoc}
+use native.Mathlib.Nat.{add-zero, add_assoc}
 use native.Mathlib.Omega.{arith}
 use lib.Dec.{eqb}
-use lib.ListN.{length, get_or, take, drop, drop_of_length-le, length-drop}
-use lib.Seq.{sets, length-sets, drop-cons, drop-drop}
+use lib.ListN.{length, take, drop, length-drop}
+use lib.Seq.{sets, length-sets, drop-drop, take-add}
 use borrow.Author.Tests.{eq-eqb, ne_eqb, eqb-true}
 use Rattle.form.specs.Numbers.{pick}
 use Rattle.laws.proofs.Runs.{part_length}
 use Rattle.source.specs.declared.reads.Reads.{Reads}
 use Rattle.source.specs.Reads.{FAILS, came, one, onward, fill}
-use Rattle.source.proofs.Stores.{sets_then, part-add}
+use Rattle.std.specs.Prelude.{Some, None, slice_get}
+use Rattle.laws.proofs.Never.{never}
+use borrow.Rule.Slice.PartMut.{put_mid}
+use Rattle.source.proofs.Stores.{sets_then, onwards, onwards-is, put_tail}
 
--- ---- one read, by the entry's place
+-- ---- one read, by the entry
 
-pub one-past : (schedule : List ℕ) (k room left : ℕ) → length schedule ≤ k → one room left (drop k schedule) ≡ came (min room left) 0 false
+pub one_past : (schedule : List ℕ) (room left : ℕ) → slice_get schedule 0 ≡ None → one room left schedule ≡ came (min room left) 0 false
 unfolding one
-one-past schedule k room left h = rw (drop_of_length-le schedule h)
+one_past [] room left h = refl
+one_past (e ∷ es) room left h = never (cc)
 
-pub one_at : (schedule : List ℕ) (k room left : ℕ) → k < length schedule
-    → one room left (drop k schedule) ≡ pick (eqb (get_or schedule k 0) FAILS) (came 0 1 true) (came (min (get_or schedule k 0) (min room left)) 1 false)
+pub one_at : (schedule : List ℕ) (e room left : ℕ) → Some e ≡ slice_get schedule 0 → one room left schedule ≡ pick (eqb e FAILS) (came 0 1 true) (came (min e (min room left)) 1 false)
 unfolding one
-one_at schedule k room left h = rw (drop-cons schedule k 0 h)
+one_at [] e room left h = never (cc)
+one_at (d ∷ es) e room left h = let k : d ≡ e = cc in rw k
 
 -- ---- within room, supply and schedule
 
@@ -41,6 +45,9 @@ one-within room left (e ∷ es) = by (eqb e FAILS)
     by : (b : Bool) → Within room left (suc (length es)) (pick b (came 0 1 true) (came (min e (min room left)) 1 false))
     by true = record { fits = omega arith; there = omega arith; lines = omega arith }
     by false = record { fits = omega arith; there = omega arith; lines = omega arith }
+
+pub granted : (room left : ℕ) (es : List ℕ) (r : Reads) → r ≡ one room left es → Within room left (length es) r
+granted room left es r e = rw e (one-within room left es)
 
 -- a read, and then more within what it leaves
 onward-within : (room left n : ℕ) (r more : Reads) → Within room left 1 r → Within (room - r.got) (left - r.got) n more → Within room left (suc n) (onward r more)
@@ -92,93 +99,89 @@ unfolding fill one
 fill_step room left [] = past room left [] (min room left) (eqb room 0) (eqb (min room left) 0) refl refl refl
 fill_step room left (e ∷ es) = rw (one_line room left e es)
 
-room-left : (a g m n : ℕ) → a + g ≤ n → m ≤ n - (a + g) → a + (g + m) ≤ n
-room-left a g m n h k = omega arith
-
-sub_more : (n a g m : ℕ) → n - (a + g) - m ≡ n - (a + (g + m))
-sub_more n a g m = omega arith
-
 -- ---- the loop of reads: what holds at its head, and what each way on makes of it
 
 -- after got bytes by used entries, more came
 abbrev pub and_more : ℕ → ℕ → Reads → Reads
 and_more got used r = came (got + r.got) (used + r.used) r.failed
 
-module _ (buffer₀ supply schedule : List ℕ) (at from entry : ℕ) where
+module _ (buffer₀ supply schedule : List ℕ) where
   -- what the reads give from where they stand
   abbrev rest : ℕ → ℕ → Reads
-  rest got used = fill (length buffer₀ - (at + got)) (length supply - (from + got)) (drop (entry + used) schedule)
+  rest got used = fill (length buffer₀ - got) (length supply - got) (drop used schedule)
 
   -- what all the reads together give
   abbrev pub all : Reads
-  all = fill (length buffer₀ - at) (length supply - from) (drop entry schedule)
+  all = fill (length buffer₀) (length supply) schedule
 
   pub record Going (buffer : List ℕ) (got used : ℕ) : Type 0 where
-    pub room : at + got ≤ length buffer₀
-    pub left : from + got ≤ length supply
-    pub lines : entry + used ≤ length schedule
+    pub room : got ≤ length buffer₀
+    pub left : got ≤ length supply
+    pub lines : used ≤ length schedule
     pub more : and_more got used (rest got used) ≡ all
-    pub bytes : buffer ≡ sets buffer₀ at (take got (drop from supply))
-
-  pub begins : at ≤ length buffer₀ → from ≤ length supply → entry ≤ length schedule → Going buffer₀ 0 0
-  begins h₁ h₂ h₃ = record { room = omega arith; left = omega arith; lines = omega arith; more = simp (add-zero, zero-add); bytes = refl }
+    pub bytes : buffer ≡ sets buffer₀ 0 (take got supply)
 
   -- what is answered where the reads end with r
   abbrev pub Ends : Reads → List ℕ → Type 0
-  Ends r buffer = (r ≡ all) × (buffer ≡ sets buffer₀ at (take r.got (drop from supply)))
+  Ends r buffer = (r ≡ all) × (buffer ≡ sets buffer₀ 0 (take r.got supply))
 
   module _ (buffer : List ℕ) (got used : ℕ) (g : Going buffer got used) where
     pub long : length buffer ≡ length buffer₀
-    long = ap length g.bytes ∙ length-sets buffer₀ at (take got (drop from supply))
+    long = ap length g.bytes ∙ length-sets buffer₀ 0 (take got supply)
 
-    pub full : length buffer ≤ at + got → Ends (came got used false) buffer
+    pub full : length buffer ≤ got → Ends (came got used false) buffer
     full h =
-        let z : length buffer₀ - (at + got) ≡ 0 = omega (arith, long) in
-        let s = fill_step (length buffer₀ - (at + got)) (length supply - (from + got)) (drop (entry + used) schedule) in
+        let z : length buffer₀ - got ≡ 0 = omega (arith, long) in
+        let s = fill_step (length buffer₀ - got) (length supply - got) (drop used schedule) in
         let r : rest got used ≡ came 0 0 false = rw (eq-eqb _ _ z) at s in
         let e : and_more got used (rest got used) ≡ came got used false = rw (r, add-zero got, add-zero used) in
         (sym e ∙ g.more, g.bytes)
 
-    -- after a read that gave r and left the buffer at `last`
-    module _ (h : at + got < length buffer) (r : Reads) (last : List ℕ)
-        (q : r ≡ one (length buffer - (at + got)) (length supply - (from + got)) (drop (entry + used) schedule))
-        (w : last ≡ sets buffer (at + got) (take r.got (drop (from + got) supply))) where
-      here : r ≡ one (length buffer₀ - (at + got)) (length supply - (from + got)) (drop (entry + used) schedule)
-      here = rw long at q
+    -- after a read into what is left of the buffer, which gave r and left `part` there
+    module _ (h : got < length buffer) (r : Reads) (part : List ℕ)
+        (q : r ≡ one (length (onwards buffer got)) (length (onwards supply got)) (onwards schedule used))
+        (w : part ≡ sets (onwards buffer got) 0 (take r.got (onwards supply got))) where
+      here : r ≡ one (length buffer₀ - got) (length supply - got) (drop used schedule)
+      here = rw (onwards-is buffer got, onwards-is supply got, onwards-is schedule used, length-drop got buffer, length-drop got supply, long) at q
 
-      pub within : Within (length buffer₀ - (at + got)) (length supply - (from + got)) (length schedule - (entry + used)) r
+      pub within : Within (length buffer₀ - got) (length supply - got) (length schedule - used) r
       within =
-          let o = one-within (length buffer₀ - (at + got)) (length supply - (from + got)) (drop (entry + used) schedule) in
-          rw (← here, length-drop (entry + used) schedule) at o
+          let o = one-within (length buffer₀ - got) (length supply - got) (drop used schedule) in
+          rw (← here, length-drop used schedule) at o
 
-      step : rest got used ≡ onward r (fill (length buffer₀ - (at + got) - r.got) (length supply - (from + got) - r.got) (drop r.used (drop (entry + used) schedule)))
+      -- the whole buffer
+      last : put_mid got (length buffer - got) buffer part ≡ sets buffer got (take r.got (drop got supply))
+      last =
+          let l = part_length supply got r.got (omega (arith, within)) in
+          put_tail buffer (take r.got (drop got supply)) part got (rw (onwards-is supply got) at w) (omega (arith, l, within, long, g.room))
+
+      step : rest got used ≡ onward r (fill (length buffer₀ - got - r.got) (length supply - got - r.got) (drop r.used (drop used schedule)))
       step =
-          let n : length buffer₀ - (at + got) ≡ 0 → ⊥ = λ z. omega (arith, long) in
-          let s = fill_step (length buffer₀ - (at + got)) (length supply - (from + got)) (drop (entry + used) schedule) in
+          let n : length buffer₀ - got ≡ 0 → ⊥ = λ z. omega (arith, long) in
+          let s = fill_step (length buffer₀ - got) (length supply - got) (drop used schedule) in
           rw (ne_eqb _ _ n, ← here) at s
 
-      pub none : r.got ≡ 0 → Ends (came got (used + r.used) r.failed) last
+      pub none : r.got ≡ 0 → Ends (came got (used + r.used) r.failed) (put_mid got (length buffer - got) buffer part)
       none z =
           let x : rest got used ≡ r = rw (eq-eqb _ _ z) at step in
           let y : and_more got used (rest got used) ≡ came got (used + r.used) r.failed = rw (x, z, add-zero got) in
-          (sym y ∙ g.more, rw (z) at w ∙ g.bytes)
+          (sym y ∙ g.more, rw (z) at last ∙ g.bytes)
 
-      pub goes : (r.got ≡ 0 → ⊥) → Going last (got + r.got) (used + r.used)
+      pub goes : (r.got ≡ 0 → ⊥) → Going (put_mid got (length buffer - got) buffer part) (got + r.got) (used + r.used)
       goes n =
-          let l = part_length supply from got (omega (arith, g.left)) in
+          let l = part_length supply 0 got (omega (arith, g.left)) in
           let v = within in
-          let a = sub_more (length buffer₀) at got r.got in
-          let b = sub_more (length supply) from got r.got in
-          let d : drop r.used (drop (entry + used) schedule) ≡ drop (entry + (used + r.used)) schedule =
-          drop-drop r.used (entry + used) schedule ∙ ap (λ (k : ℕ). drop k schedule) (add_assoc entry used r.used) in
+          let a : length buffer₀ - got - r.got ≡ length buffer₀ - (got + r.got) = omega arith in
+          let b : length supply - got - r.got ≡ length supply - (got + r.got) = omega arith in
+          let d : drop r.used (drop used schedule) ≡ drop (used + r.used) schedule = drop-drop r.used used schedule in
           let x : rest got used ≡ and_more r.got r.used (rest (got + r.got) (used + r.used)) = rw (ne_eqb _ _ n, a, b, d) at step in
           record {
-            room = room-left at got r.got (length buffer₀) g.room v.fits;
-            left = room-left from got r.got (length supply) g.left v.there;
-            lines = room-left entry used r.used (length schedule) g.lines v.lines;
+            room = omega (arith, g.room, v.fits);
+            left = omega (arith, g.left, v.there);
+            lines = omega (arith, g.lines, v.lines);
             more = rw (add_assoc got r.got, add_assoc used r.used) (ap (and_more got used) (sym x) ∙ g.more);
             bytes =
-                w ∙ ap (λ (o : List ℕ). sets o (at + got) (take r.got (drop (from + got) supply))) g.bytes
-                ∙ sets_then (take got (drop from supply)) (take r.got (drop (from + got) supply)) buffer₀ at (at + got) (omega (arith, l))
-                ∙ ap (sets buffer₀ at) (part-add supply from got r.got);
+                last ∙ ap (λ (o : List ℕ). sets o got (take r.got (drop got supply))) g.bytes
+                ∙ sets_then (take got supply) (take r.got (drop got supply)) buffer₀ 0 got (omega (arith, l))
+                ∙ ap (sets buffer₀ 0) (sym (take-add got r.got supply));
           }

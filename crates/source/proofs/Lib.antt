@@ -2,7 +2,6 @@ pub mod Stores
 pub mod Filling
 pub mod States
 pub mod Cases
-pub mod Answered
 pub mod Through
 pub mod Kept
 pub mod Conserve

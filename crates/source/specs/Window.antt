@@ -1,12 +1,10 @@
 -- The window: what each call answers, the state that it leaves and every byte of the buffer.
-use Rattle.std.specs.Prelude.{ℕ, ◌+◌, ◌-◌, Bool, true, false, ◌&&◌, List, [], ◌++◌, length, take, drop, leb, ltb}
+use Rattle.std.specs.Prelude.{ℕ, ◌+◌, ◌-◌, Bool, true, false, ◌&&◌, List, [], ◌++◌, length, take, drop, leb, ltb, Option as MayBe, Some, None}
 use Rattle.std.proofs.Math.Option.{Option, none, some}
 use Rattle.std.proofs.lemmas.List.Edits.{sets}
 use Rattle.form.specs.Numbers.{pick, MAX}
 use Rattle.form.specs.Refusals.{Refusal, Eof, BufferTooSmall, ReadFailed, BadPlace, is_eof}
 use Rattle.source.specs.declared.ParserSource.{ParserSource}
-use Rattle.source.specs.declared.Check.{Check}
-use Rattle.source.specs.declared.Check.TheVariants.{Fine, Bad}
 use Rattle.source.specs.declared.reads.Reads.{Reads}
 use Rattle.payload.specs.declared.answers.Text.{Text}
 use Rattle.payload.specs.Texts.{part_of}
@@ -30,14 +28,14 @@ unread s = s.end - s.start
 abbrev pub unread_in : ParserSource → List ℕ → List ℕ
 unread_in s held = take (unread s) (drop s.start held)
 
--- the first number of a state that does not fit, where the window lies in so many bytes, with a supply and a schedule so long
-unfoldable pub checked : ParserSource → ℕ → ℕ → ℕ → Check
+-- the first number of a state that does not fit, if any, where the window lies in so many bytes, with a supply and a schedule so long
+unfoldable pub checked : ParserSource → ℕ → ℕ → ℕ → MayBe ℕ
 checked s held supply schedule =
-    pick (ltb s.end s.start) (Bad s.start)
-    (pick (ltb held s.end) (Bad s.end)
-    (pick (ltb supply s.supply) (Bad s.supply)
-    (pick (ltb schedule s.schedule) (Bad s.schedule)
-    (pick (ltb MAX (s.position + unread s + (supply - s.supply))) (Bad s.position) Fine))))
+    pick (ltb s.end s.start) (Some s.start)
+    (pick (ltb held s.end) (Some s.end)
+    (pick (ltb supply s.supply) (Some s.supply)
+    (pick (ltb schedule s.schedule) (Some s.schedule)
+    (pick (ltb MAX (s.position + unread s + (supply - s.supply))) (Some s.position) None))))
 
 -- n of the unread bytes are read
 abbrev pub read_past : ℕ → ParserSource → ParserSource
@@ -81,9 +79,9 @@ infixr 20 ◌then◌
 unfoldable pub ◌then◌ : {A B : Type 0} → Draw A → (A → Draw B) → Draw B
 ◌then◌ f g s buffer = drawn_then (f s buffer) g
 
-unfoldable pub if_fine : {A : Type 0} → Check → ParserSource → List ℕ → Drawn A → Drawn A
-if_fine Fine s buffer x = x
-if_fine (Bad p) s buffer x = halted (BadPlace p) s buffer
+unfoldable pub if_fine : {A : Type 0} → MayBe ℕ → ParserSource → List ℕ → Drawn A → Drawn A
+if_fine None s buffer x = x
+if_fine (Some p) s buffer x = halted (BadPlace p) s buffer
 
 -- a part of the bytes; empty where the call is refused
 unfoldable pub if_given : {A : Type 0} → Drawn A → List ℕ → List ℕ
@@ -141,7 +139,7 @@ module _ (supply : List ℕ) where
 -- ---- over a supply and a schedule
 
 module _ (supply schedule : List ℕ) where
-  abbrev pub checked_in : ParserSource → List ℕ → Check
+  abbrev pub checked_in : ParserSource → List ℕ → MayBe ℕ
   checked_in s buffer = checked s (length (held_in supply s buffer)) (length supply) (length schedule)
 
   -- a state that does not fit is refused before anything else, and nothing is moved

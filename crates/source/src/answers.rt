@@ -1,15 +1,15 @@
 // The answers of the source's calls, each with the state that the call leaves.
 ghost use Rattle.std.specs.Prelude.{◌≡◌};
 ghost use Rattle.form.specs.Refusals.{is_eof};
-ghost use Rattle.source.specs.Answers.{refusal_of, or_nothing, taken_answer, tried_answer, ensured_stop, id_stop, u32_stop};
+ghost use Rattle.payload.specs.Answers.{option_as};
+ghost use Rattle.source.specs.Answers.{refusal_of, or_nothing, drawn_as};
 ghost use Rattle.source.specs.Window.{taken_part, tried_part};
 
 use crate::ParserSource;
-use lexeme::LexemeId;
-use payload::{Rgb, Text};
+use payload::Text;
 
 // Why a call is refused: the position, and with Eof how many bytes are missing; or the number that does not fit.
-#[derive(Clone, Copy)]
+#[derive(Clone, Copy, Debug, PartialEq, Eq)]
 pub enum ParserError {
     Eof(usize, usize),
     InvalidRgb(usize),
@@ -20,171 +20,57 @@ pub enum ParserError {
 
 impl ParserError {
     // Whether the bytes ended too early.
+    #[tactic(auto, unfolding(form::specs::Refusals::is_eof))]
     pub fn is_eof(self) -> bool
         ensures { result ≡ is_eof (refusal_of self) }
     {
-        match self {
-            ParserError::Eof(_, _) => true,
-            ParserError::InvalidRgb(_) => false,
-            ParserError::BufferTooSmall(_) => false,
-            ParserError::ReadFailed(_) => false,
-            ParserError::BadPlace(_) => false,
-        }
+        matches!(self, ParserError::Eof(_, _))
     }
 }
 
 // A refusal, and the state that it leaves.
-#[derive(Clone, Copy)]
+#[derive(Clone, Copy, Debug, PartialEq, Eq)]
 pub struct Stop {
     pub error: ParserError,
     pub next: ParserSource,
 }
 
+// What a call answers: a value and the state that it leaves, or a refusal.
+pub type Taken<T> = Result<(T, ParserSource), Stop>;
+
 impl Stop {
     // Nothing, where the bytes ended with none unread.
-    pub(crate) fn or_nothing(self) -> Tried
+    pub(crate) fn or_nothing(self) -> Taken<Option<Text>>
         ensures { result ≡ or_nothing self }
     {
-        let error = self.error;
         let next = self.next;
-        if !error.is_eof() {
-            return Tried::Refused(self);
-        }
-        if next.end <= next.start {
-            return Tried::Nothing(next);
-        }
-        Tried::Refused(self)
-    }
-}
-
-#[derive(Clone, Copy)]
-pub enum Ensured {
-    Ready(ParserSource),
-    Refused(Stop),
-}
-
-impl Ensured {
-    // The refusal, where it is one.
-    pub(crate) fn stop(self) -> Stop
-        ensures { result ≡ ensured_stop self }
-    {
-        match self {
-            Ensured::Ready(next) => Stop {
-                error: ParserError::InvalidRgb(0),
-                next,
-            },
-            Ensured::Refused(x) => x,
+        if self.error.is_eof() && next.end <= next.start {
+            Ok((None, next))
+        } else {
+            Err(self)
         }
     }
 }
 
-#[derive(Clone, Copy)]
-pub enum Refilled {
-    Read(usize, ParserSource),
-    Refused(Stop),
-}
-
-#[derive(Clone, Copy)]
-pub enum Advanced {
-    Moved(bool, ParserSource),
-    Refused(Stop),
-}
-
-#[derive(Clone, Copy)]
-pub enum WindowLen {
-    Got(usize),
-    Refused(ParserError),
-}
-
-// Where the bytes taken stand, in the bytes that hold the window.
-#[derive(Clone, Copy)]
-pub enum Taken {
-    Got(Text, ParserSource),
-    Refused(Stop),
-}
-
-impl Taken {
-    // The bytes taken; none on a refusal.
-    pub fn part<'a>(self, buffer: &'a [u8], supply: &'a [u8]) -> &'a [u8]
-        ensures { result.now ≡ taken_part supply.now (taken_answer self buffer.now) }
-    {
-        match self {
-            Taken::Got(text, next) => next.text(text, buffer, supply),
-            Taken::Refused(_) => &buffer[..0],
-        }
+// The bytes taken; none on a refusal.
+#[tactic(auto, unfolding(crate::specs::Window::taken_part))]
+pub fn taken_part<'a>(taken: Taken<Text>, buffer: &'a [u8], supply: &'a [u8]) -> &'a [u8]
+    ensures { result.now ≡ taken_part supply.now (drawn_as (λ t. t) taken buffer.now) }
+{
+    match taken {
+        Ok((text, next)) => next.text(text, buffer, supply),
+        Err(_) => &buffer[..0],
     }
 }
 
-// The same, or nothing at the end.
-#[derive(Clone, Copy)]
-pub enum Tried {
-    Got(Text, ParserSource),
-    Nothing(ParserSource),
-    Refused(Stop),
-}
-
-impl Tried {
-    // The bytes found; none where there is nothing, and on a refusal.
-    pub fn part<'a>(self, buffer: &'a [u8], supply: &'a [u8]) -> &'a [u8]
-        ensures { result.now ≡ tried_part supply.now (tried_answer self buffer.now) }
-    {
-        match self {
-            Tried::Got(text, next) => next.text(text, buffer, supply),
-            Tried::Nothing(_) => &buffer[..0],
-            Tried::Refused(_) => &buffer[..0],
-        }
+// The bytes found; none where there is nothing, and on a refusal.
+#[tactic(auto, unfolding(crate::specs::Window::tried_part))]
+pub fn tried_part<'a>(tried: Taken<Option<Text>>, buffer: &'a [u8], supply: &'a [u8]) -> &'a [u8]
+    ensures { result.now ≡ tried_part supply.now (drawn_as (option_as (λ t. t)) tried buffer.now) }
+{
+    match tried {
+        Ok((Some(text), next)) => next.text(text, buffer, supply),
+        Ok((None, _)) => &buffer[..0],
+        Err(_) => &buffer[..0],
     }
-}
-
-#[derive(Clone, Copy)]
-pub enum TakenId {
-    Got(LexemeId, ParserSource),
-    Refused(Stop),
-}
-
-impl TakenId {
-    pub(crate) fn stop(self) -> Stop
-        ensures { result ≡ id_stop self }
-    {
-        match self {
-            TakenId::Got(_, next) => Stop {
-                error: ParserError::InvalidRgb(0),
-                next,
-            },
-            TakenId::Refused(x) => x,
-        }
-    }
-}
-
-#[derive(Clone, Copy)]
-pub enum PeekedId {
-    Got(LexemeId, ParserSource),
-    Nothing(ParserSource),
-    Refused(Stop),
-}
-
-#[derive(Clone, Copy)]
-pub(crate) enum TakenU32 {
-    Got(u32, ParserSource),
-    Refused(Stop),
-}
-
-impl TakenU32 {
-    pub(crate) fn stop(self) -> Stop
-        ensures { result ≡ u32_stop self }
-    {
-        match self {
-            TakenU32::Got(_, next) => Stop {
-                error: ParserError::InvalidRgb(0),
-                next,
-            },
-            TakenU32::Refused(x) => x,
-        }
-    }
-}
-
-#[derive(Clone, Copy)]
-pub enum TakenRgb {
-    Got(Rgb, ParserSource),
-    Refused(Stop),
 }

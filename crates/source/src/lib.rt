@@ -7,20 +7,18 @@ mod reads;
 
 ghost use Rattle.std.specs.Prelude.{◌≡◌, ◌+◌, ◌-◌, ◌≤◌, length};
 ghost use Rattle.form.specs.Numbers.{pick, MAX};
+ghost use Rattle.payload.specs.Answers.{option_as};
 ghost use Rattle.source.specs.Window.{new_stream, new_slice, unread, checked, checked_in, read_past, filled, topped, ensured, once, refilled, advanced, window_len, window_of, text_in, taken, tried, peeked};
-ghost use Rattle.source.specs.Answers.{ensured_answer, refilled_answer, advanced_answer, window_len_answer, taken_answer, tried_answer};
+ghost use Rattle.source.specs.Answers.{judged, ensured_answer, drawn_as, window_len_answer};
 ghost use Rattle.source.specs.Good.{Good};
 
-pub use crate::answers::{
-    Advanced, Ensured, ParserError, PeekedId, Refilled, Stop, Taken, TakenId, TakenRgb, Tried,
-    WindowLen,
-};
+pub use crate::answers::{ParserError, Stop, Taken, taken_part, tried_part};
 use crate::reads::Reads;
 use payload::Text;
 
 // The unread bytes are those from start to end, of the buffer or, of a slice, of the supply. So many bytes of the supply are handed over and
 // so many entries of the schedule used; position bytes are read.
-#[derive(Clone, Copy)]
+#[derive(Clone, Copy, Debug, PartialEq, Eq)]
 pub struct ParserSource {
     pub start: usize,
     pub end: usize,
@@ -28,13 +26,6 @@ pub struct ParserSource {
     pub schedule: usize,
     pub position: usize,
     pub streaming: bool,
-}
-
-// Whether the numbers of a state fit, or the first that does not.
-#[derive(Clone, Copy)]
-pub(crate) enum Check {
-    Fine,
-    Bad(usize),
 }
 
 impl ParserSource {
@@ -82,39 +73,45 @@ impl ParserSource {
     }
 
     // The first number that does not fit, in FORMAT.md's order.
-    fn check_in(self, held: usize, supply: usize, schedule: usize) -> Check
+    #[tactic(auto, unfolding(crate::specs::Window::checked))]
+    fn check_in(self, held: usize, supply: usize, schedule: usize) -> Option<usize>
         ensures { result ≡ checked self held supply schedule }
     {
         if self.end < self.start {
-            return Check::Bad(self.start);
+            return Some(self.start);
         }
         if held < self.end {
-            return Check::Bad(self.end);
+            return Some(self.end);
         }
         if supply < self.supply {
-            return Check::Bad(self.supply);
+            return Some(self.supply);
         }
         if schedule < self.schedule {
-            return Check::Bad(self.schedule);
+            return Some(self.schedule);
         }
         let spare = usize::MAX - (self.end - self.start);
         let left = supply - self.supply;
         if spare < left {
-            return Check::Bad(self.position);
+            return Some(self.position);
         }
         if spare - left < self.position {
-            return Check::Bad(self.position);
+            return Some(self.position);
         }
-        Check::Fine
+        None
     }
 
-    fn check(self, buffer: &[u8], supply: &[u8], schedule: &[u32]) -> Check
-        ensures { result ≡ checked_in supply.now schedule.now self buffer.now }
+    // Refuses a state whose numbers do not fit.
+    #[tactic(auto, unfolding(crate::specs::Answers::judged))]
+    fn check(self, buffer: &[u8], supply: &[u8], schedule: &[u32]) -> Result<(), Stop>
+        ensures { result ≡ judged self (checked_in supply.now schedule.now self buffer.now) }
     {
-        if self.streaming {
-            self.check_in(buffer.len(), supply.len(), schedule.len())
-        } else {
-            self.check_in(supply.len(), supply.len(), schedule.len())
+        let held = self.held_in(buffer, supply);
+        match self.check_in(held.len(), supply.len(), schedule.len()) {
+            None => Ok(()),
+            Some(p) => Err(Stop {
+                error: ParserError::BadPlace(p),
+                next: self,
+            }),
         }
     }
 
@@ -128,8 +125,7 @@ impl ParserSource {
             end: self.end - self.start + r.got,
             supply: self.supply + r.got,
             schedule: self.schedule + r.used,
-            position: self.position,
-            streaming: self.streaming,
+            ..self
         }
     }
 
@@ -140,16 +136,20 @@ impl ParserSource {
         buffer: &mut [u8],
         supply: &[u8],
         schedule: &[u32],
-    ) -> Ensured
+    ) -> Result<ParserSource, Stop>
         requires { Good self (length buffer.old) (length supply.now) (length schedule.now) }
         ensures { ensured_answer result buffer.new ≡ topped supply.now schedule.now required self buffer.old }
     {
         let len = self.end - self.start;
         reads::slide(buffer, self.start, len);
-        let r = reads::fill_up(buffer, len, supply, self.supply, schedule, self.schedule);
+        let r = reads::fill_up(
+            &mut buffer[len..],
+            &supply[self.supply..],
+            &schedule[self.schedule..],
+        );
         let next = self.filled(r);
         if r.failed {
-            return Ensured::Refused(Stop {
+            return Err(Stop {
                 error: ParserError::ReadFailed(self.position),
                 next,
             });
@@ -157,47 +157,39 @@ impl ParserSource {
         let end = next.end;
         if end < required {
             let missing = required - end;
-            return Ensured::Refused(Stop {
+            return Err(Stop {
                 error: ParserError::Eof(self.position, missing),
                 next,
             });
         }
-        Ensured::Ready(next)
+        Ok(next)
     }
 
     // Has so many bytes unread in the window, reading as needed.
+    #[tactic(auto, using(crate::proofs::Cases::checks))]
     pub fn ensure_bytes(
         self,
         required: usize,
         buffer: &mut [u8],
         supply: &[u8],
         schedule: &[u32],
-    ) -> Ensured
+    ) -> Result<ParserSource, Stop>
         ensures { ensured_answer result buffer.new ≡ ensured supply.now schedule.now required self buffer.old }
     {
-        let c = self.check(buffer, supply, schedule);
-        match c {
-            Check::Bad(p) => {
-                return Ensured::Refused(Stop {
-                    error: ParserError::BadPlace(p),
-                    next: self,
-                });
-            }
-            Check::Fine => {}
-        }
+        self.check(buffer, supply, schedule)?;
         let unread = self.end - self.start;
         if required <= unread {
-            return Ensured::Ready(self);
+            return Ok(self);
         }
         if !self.streaming {
             let missing = required - unread;
-            return Ensured::Refused(Stop {
+            return Err(Stop {
                 error: ParserError::Eof(self.position, missing),
                 next: self,
             });
         }
         if buffer.len() < required {
-            return Ensured::Refused(Stop {
+            return Err(Stop {
                 error: ParserError::BufferTooSmall(self.position),
                 next: self,
             });
@@ -206,42 +198,38 @@ impl ParserSource {
     }
 
     // Moves the unread bytes to the front and reads once.
-    fn read_more(self, buffer: &mut [u8], supply: &[u8], schedule: &[u32]) -> Refilled
+    fn read_more(self, buffer: &mut [u8], supply: &[u8], schedule: &[u32]) -> Taken<usize>
         requires { Good self (length buffer.old) (length supply.now) (length schedule.now) }
-        ensures { refilled_answer result buffer.new ≡ once supply.now schedule.now self buffer.old }
+        ensures { drawn_as (λ n. n) result buffer.new ≡ once supply.now schedule.now self buffer.old }
     {
         let len = self.end - self.start;
         reads::slide(buffer, self.start, len);
-        let r = reads::read_once(buffer, len, supply, self.supply, schedule, self.schedule);
+        let r = reads::read_once(
+            &mut buffer[len..],
+            &supply[self.supply..],
+            &schedule[self.schedule..],
+        );
         let next = self.filled(r);
         if r.failed {
-            return Refilled::Refused(Stop {
+            return Err(Stop {
                 error: ParserError::ReadFailed(self.position),
                 next,
             });
         }
-        Refilled::Read(r.got, next)
+        Ok((r.got, next))
     }
 
     // Reads once into the buffer, behind the unread bytes, and says how many bytes came; none for a slice.
-    pub fn refill(self, buffer: &mut [u8], supply: &[u8], schedule: &[u32]) -> Refilled
-        ensures { refilled_answer result buffer.new ≡ refilled supply.now schedule.now self buffer.old }
+    #[tactic(auto, using(crate::proofs::Cases::checks))]
+    pub fn refill(self, buffer: &mut [u8], supply: &[u8], schedule: &[u32]) -> Taken<usize>
+        ensures { drawn_as (λ n. n) result buffer.new ≡ refilled supply.now schedule.now self buffer.old }
     {
-        let c = self.check(buffer, supply, schedule);
-        match c {
-            Check::Bad(p) => {
-                return Refilled::Refused(Stop {
-                    error: ParserError::BadPlace(p),
-                    next: self,
-                });
-            }
-            Check::Fine => {}
-        }
+        self.check(buffer, supply, schedule)?;
         if !self.streaming {
-            return Refilled::Read(0, self);
+            return Ok((0, self));
         }
         if buffer.len() <= self.end - self.start {
-            return Refilled::Refused(Stop {
+            return Err(Stop {
                 error: ParserError::BufferTooSmall(self.position),
                 next: self,
             });
@@ -256,59 +244,54 @@ impl ParserSource {
     {
         ParserSource {
             start: self.start + bytes,
-            end: self.end,
-            supply: self.supply,
-            schedule: self.schedule,
             position: self.position + bytes,
-            streaming: self.streaming,
+            ..self
         }
     }
 
     // Reads so many bytes of the window; none where it does not have them.
-    pub fn advance(self, bytes: usize, buffer: &[u8], supply: &[u8], schedule: &[u32]) -> Advanced
-        ensures { advanced_answer result buffer.now ≡ advanced supply.now schedule.now bytes self buffer.now }
+    #[tactic(auto, using(crate::proofs::Cases::checks))]
+    pub fn advance(
+        self,
+        bytes: usize,
+        buffer: &[u8],
+        supply: &[u8],
+        schedule: &[u32],
+    ) -> Taken<bool>
+        ensures { drawn_as (λ b. b) result buffer.now ≡ advanced supply.now schedule.now bytes self buffer.now }
     {
-        let c = self.check(buffer, supply, schedule);
-        match c {
-            Check::Bad(p) => {
-                return Advanced::Refused(Stop {
-                    error: ParserError::BadPlace(p),
-                    next: self,
-                });
-            }
-            Check::Fine => {}
-        }
+        self.check(buffer, supply, schedule)?;
         if bytes <= self.end - self.start {
-            return Advanced::Moved(true, self.past(bytes));
+            return Ok((true, self.past(bytes)));
         }
-        Advanced::Moved(false, self)
+        Ok((false, self))
     }
 
     // How many bytes are unread in the window.
-    pub fn window_len(self, buffer: &[u8], supply: &[u8], schedule: &[u32]) -> WindowLen
+    #[tactic(auto, using(crate::proofs::Cases::checks))]
+    pub fn window_len(
+        self,
+        buffer: &[u8],
+        supply: &[u8],
+        schedule: &[u32],
+    ) -> Result<usize, ParserError>
         ensures { window_len_answer self result buffer.now ≡ window_len supply.now schedule.now self buffer.now }
     {
-        let c = self.check(buffer, supply, schedule);
-        match c {
-            Check::Bad(p) => WindowLen::Refused(ParserError::BadPlace(p)),
-            Check::Fine => {
-                let len = self.end - self.start;
-                WindowLen::Got(len)
-            }
+        match self.check(buffer, supply, schedule) {
+            Ok(()) => Ok(self.end - self.start),
+            Err(x) => Err(x.error),
         }
     }
 
     // The unread bytes; none where the state is refused.
+    #[tactic(auto, using(crate::proofs::Cases::checks))]
     pub fn window<'a>(self, buffer: &'a [u8], supply: &'a [u8], schedule: &[u32]) -> &'a [u8]
         ensures { result.now ≡ window_of supply.now schedule.now self buffer.now }
     {
         let held = self.held_in(buffer, supply);
-        let start = self.start;
-        let end = self.end;
-        let c = self.check(buffer, supply, schedule);
-        match c {
-            Check::Bad(_) => &held[..0],
-            Check::Fine => &held[start..end],
+        match self.check(buffer, supply, schedule) {
+            Ok(()) => &held[self.start..self.end],
+            Err(_) => &held[..0],
         }
     }
 
@@ -317,50 +300,58 @@ impl ParserSource {
         ensures { result.now ≡ text_in supply.now text self buffer.now }
     {
         let held = self.held_in(buffer, supply);
-        let start = text.start;
-        let len = text.len;
-        if held.len() < start {
-            return &held[..0];
+        match text.start.checked_add(text.len) {
+            Some(end) if end <= held.len() => &held[text.start..end],
+            _ => &held[..0],
         }
-        if held.len() - start < len {
-            return &held[..0];
-        }
-        let end = start + len;
-        &held[start..end]
     }
 
     // The next bytes, which are read.
-    pub fn take(self, count: usize, buffer: &mut [u8], supply: &[u8], schedule: &[u32]) -> Taken
-        ensures { taken_answer result buffer.new ≡ taken supply.now schedule.now count self buffer.old }
+    #[tactic(auto, using(crate::proofs::Through::reads))]
+    pub fn take(
+        self,
+        count: usize,
+        buffer: &mut [u8],
+        supply: &[u8],
+        schedule: &[u32],
+    ) -> Taken<Text>
+        ensures { drawn_as (λ t. t) result buffer.new ≡ taken supply.now schedule.now count self buffer.old }
     {
-        let e = self.ensure_bytes(count, buffer, supply, schedule);
-        match e {
-            Ensured::Ready(s) => {
-                let text = Text {
-                    start: s.start,
-                    len: count,
-                };
-                Taken::Got(text, s.past(count))
-            }
-            Ensured::Refused(x) => Taken::Refused(x),
-        }
+        let s = self.ensure_bytes(count, buffer, supply, schedule)?;
+        let text = Text {
+            start: s.start,
+            len: count,
+        };
+        Ok((text, s.past(count)))
     }
 
     // As `take`: of an array and of a slice, a count is all that is asked.
-    pub fn take_bytes(self, n: usize, buffer: &mut [u8], supply: &[u8], schedule: &[u32]) -> Taken
-        ensures { taken_answer result buffer.new ≡ taken supply.now schedule.now n self buffer.old }
+    pub fn take_bytes(
+        self,
+        n: usize,
+        buffer: &mut [u8],
+        supply: &[u8],
+        schedule: &[u32],
+    ) -> Taken<Text>
+        ensures { drawn_as (λ t. t) result buffer.new ≡ taken supply.now schedule.now n self buffer.old }
     {
         self.take(n, buffer, supply, schedule)
     }
 
     // The next bytes, which are read; nothing at the end.
-    pub fn try_take(self, count: usize, buffer: &mut [u8], supply: &[u8], schedule: &[u32]) -> Tried
-        ensures { tried_answer result buffer.new ≡ tried supply.now schedule.now count self buffer.old }
+    #[tactic(auto, using(crate::proofs::Through::reads))]
+    pub fn try_take(
+        self,
+        count: usize,
+        buffer: &mut [u8],
+        supply: &[u8],
+        schedule: &[u32],
+    ) -> Taken<Option<Text>>
+        ensures { drawn_as (option_as (λ t. t)) result buffer.new ≡ tried supply.now schedule.now count self buffer.old }
     {
-        let t = self.take(count, buffer, supply, schedule);
-        match t {
-            Taken::Got(text, s) => Tried::Got(text, s),
-            Taken::Refused(x) => x.or_nothing(),
+        match self.take(count, buffer, supply, schedule) {
+            Ok((text, s)) => Ok((Some(text), s)),
+            Err(x) => x.or_nothing(),
         }
     }
 
@@ -371,26 +362,32 @@ impl ParserSource {
         buffer: &mut [u8],
         supply: &[u8],
         schedule: &[u32],
-    ) -> Tried
-        ensures { tried_answer result buffer.new ≡ tried supply.now schedule.now n self buffer.old }
+    ) -> Taken<Option<Text>>
+        ensures { drawn_as (option_as (λ t. t)) result buffer.new ≡ tried supply.now schedule.now n self buffer.old }
     {
         self.try_take(n, buffer, supply, schedule)
     }
 
     // The next bytes, which stay unread; nothing at the end.
-    pub fn peek(self, count: usize, buffer: &mut [u8], supply: &[u8], schedule: &[u32]) -> Tried
-        ensures { tried_answer result buffer.new ≡ peeked supply.now schedule.now count self buffer.old }
+    #[tactic(auto, using(crate::proofs::Through::reads))]
+    pub fn peek(
+        self,
+        count: usize,
+        buffer: &mut [u8],
+        supply: &[u8],
+        schedule: &[u32],
+    ) -> Taken<Option<Text>>
+        ensures { drawn_as (option_as (λ t. t)) result buffer.new ≡ peeked supply.now schedule.now count self buffer.old }
     {
-        let e = self.ensure_bytes(count, buffer, supply, schedule);
-        match e {
-            Ensured::Ready(s) => {
+        match self.ensure_bytes(count, buffer, supply, schedule) {
+            Ok(s) => {
                 let text = Text {
                     start: s.start,
                     len: count,
                 };
-                Tried::Got(text, s)
+                Ok((Some(text), s))
             }
-            Ensured::Refused(x) => x.or_nothing(),
+            Err(x) => x.or_nothing(),
         }
     }
 }

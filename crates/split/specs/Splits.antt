@@ -1,15 +1,13 @@
 -- Bytes split after a count: the head and the rest, or nothing.
-use Rattle.std.specs.Prelude.{ℕ, Bool, List, [], length, take, drop, leb}
+use Rattle.std.specs.Prelude.{ℕ, Bool, List, [], length, take, drop, leb, Option, Some, None}
 use Rattle.form.specs.Numbers.{pick}
-use Rattle.split.specs.declared.Split.{Split}
-use Rattle.split.specs.declared.Split.TheVariants.{At, Nothing}
 
 -- there are n bytes
 abbrev pub splits : List ℕ → ℕ → Bool
 splits s n = leb n (length s)
 
-abbrev pub split_at : List ℕ → ℕ → Split
-split_at s n = pick (splits s n) (At n) Nothing
+abbrev pub split_at : List ℕ → ℕ → Option ℕ
+split_at s n = pick (splits s n) (Some n) None
 
 abbrev pub head_of : List ℕ → ℕ → List ℕ
 head_of s n = pick (splits s n) (take n s) []

@@ -4,20 +4,14 @@
 ghost use Rattle.std.specs.Prelude.{◌≡◌, length, drop};
 ghost use Rattle.split.specs.Splits.{splits, split_at, head_of, rest_of};
 
-#[derive(Clone, Copy)]
-pub enum Split {
-    At(usize),
-    Nothing,
-}
-
 // Whether there are so many bytes to split after.
-pub fn get_split(bytes: &[u8], count: usize) -> Split
+pub fn get_split(bytes: &[u8], count: usize) -> Option<usize>
     ensures { result ≡ split_at bytes.now count }
 {
     if count <= bytes.len() {
-        Split::At(count)
+        Some(count)
     } else {
-        Split::Nothing
+        None
     }
 }
 

@@ -3,19 +3,11 @@
 
 ghost use Rattle.std.specs.Prelude.{◌≤◌, length};
 ghost use Rattle.std.specs.Io.{ReadsAtMost, WritesAtMost};
-ghost use Rattle.stdio.specs.Within.{IsWithin};
 
 use std::io::{Error, ErrorKind, Read, Result, Write};
 
 // How often an interrupted call is made at most: more often than a program lives for, so that the loop ends.
 const AGAIN: u64 = u64::MAX;
-
-// How many bytes came, at the front of the buffer.
-#[derive(Clone, Copy)]
-pub enum Input {
-    Got(usize),
-    Failed,
-}
 
 // What one read answers that no signal interrupts.
 fn read<R: Read>(from: &mut R, buffer: &mut [u8]) -> Result<usize>
@@ -23,12 +15,8 @@ fn read<R: Read>(from: &mut R, buffer: &mut [u8]) -> Result<usize>
 {
     for _ in 0..AGAIN {
         match from.read(buffer) {
-            Ok(got) => return Ok(got),
-            Err(error) => {
-                if error.kind() != ErrorKind::Interrupted {
-                    return Err(error);
-                }
-            }
+            Err(error) if error.kind() == ErrorKind::Interrupted => {}
+            answer => return answer,
         }
     }
     Err(Error::from(ErrorKind::Interrupted))
@@ -40,32 +28,26 @@ fn write<W: Write>(to: &mut W, bytes: &[u8]) -> Result<usize>
 {
     for _ in 0..AGAIN {
         match to.write(bytes) {
-            Ok(put) => return Ok(put),
-            Err(error) => {
-                if error.kind() != ErrorKind::Interrupted {
-                    return Err(error);
-                }
-            }
+            Err(error) if error.kind() == ErrorKind::Interrupted => {}
+            answer => return answer,
         }
     }
     Err(Error::from(ErrorKind::Interrupted))
 }
 
-// Reads until the buffer is full or the input ends, in as many pieces as it comes in.
-pub fn read_all<R: Read>(from: &mut R, buffer: &mut [u8]) -> Input
-    ensures { IsWithin result (length buffer.new) }
+// Reads until the buffer is full or the input ends, in as many pieces as it comes in; how many bytes came, at the front of the buffer.
+pub fn read_all<R: Read>(from: &mut R, buffer: &mut [u8]) -> Result<usize>
+    ensures { ReadsAtMost result buffer.new }
 {
     let mut done: usize = 0;
     while done < buffer.len() {
-        let Ok(more) = read(from, &mut buffer[done..]) else {
-            return Input::Failed;
-        };
+        let more = read(from, &mut buffer[done..])?;
         if more == 0 {
-            return Input::Got(done);
+            return Ok(done);
         }
         done += more;
     }
-    Input::Got(done)
+    Ok(done)
 }
 
 // Writes the bytes, in as many pieces as they are taken in; how many were written, which is fewer than all if a write fails.

@@ -12,8 +12,9 @@ use lib.Seq.{drop-cons}
 use borrow.Author.Tests.{lt-ltb, le-ltb, ltb-false}
 use Rattle.form.specs.Numbers.{pick, le_bytes}
 use Rattle.form.specs.Ascii.{ascii, digit, decimal_f, decimal, hex, hex_or_dash, spaced}
-use Rattle.form.specs.Put.{Put}
-use Rattle.laws.proofs.Puts.{put_then}
+use Rattle.text.specs.declared.Printer.{Printer}
+use Rattle.text.specs.Puts.{Puts}
+use Rattle.text.proofs.Pending.{puts_then}
 
 -- what is left of src
 pub drop-one : (src : List ℕ) (j : ℕ) → j < length src → drop j src ≡ (get_or src j 0 ∷ []) ++ drop (j + 1) src
@@ -38,9 +39,9 @@ decimal-same (suc k) (suc m) n p q =
 last-digit : (n : ℕ) → digit (n % 10) ≡ 48 + n % 10
 last-digit n = rw (lt-ltb (n % 10) 10 (mod-lt n (lit< tt)))
 
-pub decimal-one : (n : ℕ) → n < 10 → decimal n ≡ (48 + n) ∷ []
+pub decimal-one : (n : ℕ) → n < 10 → decimal n ≡ (48 + n % 10) ∷ []
 unfolding decimal decimal_f
-decimal-one n h = let e : n % 10 ≡ n = omega arith in rw (lt-ltb n 10 h, e, lt-ltb n 10 h)
+decimal-one n h = rw (lt-ltb n 10 h, last-digit n)
 
 pub decimal-more : (n : ℕ) → 10 ≤ n → decimal n ≡ decimal (n / 10) ++ ((48 + n % 10) ∷ [])
 unfolding decimal decimal_f
@@ -86,9 +87,9 @@ no-dash (b ∷ src) h = refl
 -- ---- words with spaces in front
 
 -- a space, and a word
-pub put-spaced : {d d₁ d₂ w : List ℕ} {i r₁ r₂ : ℕ} → Put d i (ascii " ") d₁ r₁ → Put d₁ r₁ w d₂ r₂ → Put d i (spaced (w ∷ [])) d₂ r₂
+pub puts-spaced : {p p₁ p₂ : Printer} {w : List ℕ} → Puts p p₁ (ascii " ") → Puts p₁ p₂ w → Puts p p₂ (spaced (w ∷ []))
 unfolding spaced
-put-spaced {w = w} p q = rw (append-nil w) (put_then p q)
+puts-spaced {w = w} f g = rw (append-nil w) (puts_then f g)
 
 spaced-append : (vs ws : List (List ℕ)) → spaced (vs ++ ws) ≡ spaced vs ++ spaced ws
 unfolding spaced
@@ -96,5 +97,5 @@ spaced-append [] ws = refl
 spaced-append (v ∷ vs) ws = ap (λ (x : List ℕ). ascii " " ++ x) (ap (λ (x : List ℕ). v ++ x) (spaced-append vs ws) ∙ sym (append_assoc v (spaced vs) (spaced ws)))
 
 -- words, and more words
-pub put-words : {d d₁ d₂ : List ℕ} {i r₁ r₂ : ℕ} (vs ws : List (List ℕ)) → Put d i (spaced vs) d₁ r₁ → Put d₁ r₁ (spaced ws) d₂ r₂ → Put d i (spaced (vs ++ ws)) d₂ r₂
-put-words vs ws p q = rw (spaced-append vs ws) (put_then p q)
+pub puts-words : {p p₁ p₂ : Printer} (vs ws : List (List ℕ)) → Puts p p₁ (spaced vs) → Puts p₁ p₂ (spaced ws) → Puts p p₂ (spaced (vs ++ ws))
+puts-words vs ws f g = rw (spaced-append vs ws) (puts_then f g)

@@ -1,4 +1,3 @@
-pub mod LetElse
 pub mod Payloads
 pub mod Values
 pub mod Unique

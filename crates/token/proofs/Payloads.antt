@@ -6,36 +6,31 @@ use mathlib.Core.Path.{◌≡◌, refl, sym, ap, ◌∙◌}
 use mathlib.Core.Bool.{Bool}
 use mathlib.Core.List.{List, []}
 use borrow.Author.Tests.{le-leb}
-use Rattle.form.specs.Refusals.{too_short}
+use Rattle.form.specs.Refusals.{Fault}
 use Rattle.form.specs.Values as F
 use Rattle.form.specs.Table.{Payload, number, text, colour, nothing, after}
 use Rattle.form.specs.Readers.{Answer, found, refused, and_then, ByPlace, at, mapped, placed}
 use Rattle.form.specs.Reading.{num, string, rgb, payload}
 use Rattle.laws.proofs.Places.{at-giving, by-id, num-there, token-then}
-use Rattle.lexeme.specs.declared.LexemeId.{LexemeId}
-use Rattle.payload.specs.Answers.{short_by, id_answer, text_of, colour_of, alpha_of}
+use Rattle.std.specs.Prelude.{Result, Ok, Err, Option as MayBe, Some, None}
+use Rattle.payload.specs.Answers.{read_as, text_of, colour_of, alpha_of}
 use Rattle.payload.specs.Compact.{at_most7, signed_by, compact}
+use Rattle.payload.specs.declared.answers.Eof.{Eof}
+use Rattle.payload.specs.declared.answers.LexError.{LexError}
 use Rattle.payload.specs.declared.answers.Text.{Text}
-use Rattle.payload.specs.declared.answers.Alpha.{Alpha}
-use Rattle.payload.specs.declared.answers.Alpha.TheVariants.{Absent, Given}
 use Rattle.payload.specs.declared.answers.Rgb.{Rgb}
-use Rattle.payload.specs.declared.answers.ReadId.{ReadId}
-use Rattle.payload.specs.declared.answers.ReadId.TheVariants.{Got}
-use Rattle.payload.proofs.LetElse.{got_of, lack_of}
-use Rattle.token.specs.Tokens.{token_of, token_at, alpha_for}
+use Rattle.token.specs.Tokens.{Makes, token_answer, token_of, token_at, alpha_for}
 use Rattle.token.specs.declared.Token.{Token}
 use Rattle.token.specs.declared.Token.TheVariants as T
 
--- ---- a `let .. else` on a payload's answer, whose token h makes by the place after it
+-- ---- the token that `made` makes of a payload
 
-module _ {E A : Type 0} (answer : E → Answer A) (h : ℕ → A → Token) {r t : E} (q : r ≡ t) where
-  pub getting : {x : A} {n : ℕ} → answer t ≡ found x n → found (h n x) n ≡ placed h (answer r)
-  unfolding placed
-  getting e = sym (ap (λ (y : E). placed h (answer y)) q ∙ ap (placed h) e)
-
-  pub refusing : {m : ℕ} → m ≡ short_by (answer r) → answer t ≡ refused (too_short (short_by (answer t))) → refused (too_short m) ≡ placed h (answer r)
-  unfolding placed
-  refusing e d = sym (ap (placed h) (lack_of answer refl q e d))
+-- by the function that its closure is
+pub made-is : {V : Type 0} (h : V → Token) (P : V → Token → Type 0) → ((x : V) (t : Token) → P x t → t ≡ h x)
+    → (r : Result (V × ℕ) Eof) (t : Result (Token × ℕ) LexError) → Makes P r t → token_answer t ≡ placed (λ _ x. h x) (read_as (λ x. x) r)
+unfolding placed
+made-is h P w (Ok x) t (y, e, k) = ap token_answer k ∙ ap (λ (z : Token). found z x.1) (w x.0 y e)
+made-is h P w (Err e) t k = ap token_answer k
 
 -- ---- the token of each payload, by what its read answers
 
@@ -51,6 +46,15 @@ placed-mapped : {A B C : Type 0} (f : A → B) (g : ℕ → B → C) (x : Answer
 unfolding placed mapped
 placed-mapped f g (found a n) = refl
 placed-mapped f g (refused e) = refl
+
+-- a colour's token is the colour
+pub colour-token : (e : ℕ) (x : Rgb) → token_of e (colour_of x) ≡ T.Rgb x
+unfolding token_of
+colour-token e x = ap (λ (a : MayBe ℕ). T.Rgb (record { r = x.r; g = x.g; b = x.b; a = a })) (back x.a)
+  where
+    back : (a : MayBe ℕ) → alpha_for (alpha_of a) ≡ a
+    back None = refl
+    back (Some a) = refl
 
 module _ (s : List ℕ) (p : ℕ) where
   numbers : (w : ℕ) (f : ℕ → F.Value) → payload_at (number w f) s p ≡ placed (λ e n. token_of e (f n)) (at (num w) s p)
@@ -98,15 +102,6 @@ module _ (s : List ℕ) (p : ℕ) where
       let d : p ≡ p - 0 = omega arith in
       l ∙ ap (λ (k : ℕ). found (T.Quoted (record { start = k; len = 0 })) p) d ∙ nothing-at (F.Quoted [])
 
--- a colour's token is the colour
-pub colour-token : (e : ℕ) (x : Rgb) → token_of e (colour_of x) ≡ T.Rgb x
-unfolding token_of
-colour-token e x = ap (λ (a : Alpha). T.Rgb (record { r = x.r; g = x.g; b = x.b; a = a })) (back x.a)
-  where
-    back : (a : Alpha) → alpha_for (alpha_of a) ≡ a
-    back Absent = refl
-    back (Given a) = refl
-
 -- ---- a token by its id
 
 module _ (s : List ℕ) (p : ℕ) where
@@ -115,15 +110,14 @@ module _ (s : List ℕ) (p : ℕ) where
   unfolding payload_at
   by-entry h l = l ∙ sym (ap (λ (x : Payload). placed token_of (at (payload x) s p)) h)
 
-  pub after-id : {r : ReadId} {i : LexemeId} {n : ℕ} {b : Answer Token}
-      → id_answer r ≡ at (num 2) s p → r ≡ Got i n → b ≡ placed token_of (at (payload (after i.0)) s n) → b ≡ token_at s p
+  pub after-id : {i n : ℕ} {b : Answer Token}
+      → at (num 2) s p ≡ found i n → b ≡ placed token_of (at (payload (after i)) s n) → b ≡ token_at s p
   unfolding token_at
-  after-id e k l = l ∙ sym (ap (placed token_of) (by-id s p (got_of id_answer e k) refl))
+  after-id e l = l ∙ sym (ap (placed token_of) (by-id s p e refl))
 
-  pub no-id : {r t : ReadId} {m : ℕ}
-      → id_answer r ≡ at (num 2) s p → r ≡ t → m ≡ short_by (id_answer r) → id_answer t ≡ refused (too_short (short_by (id_answer t))) → refused (too_short m) ≡ token_at s p
+  pub no-id : {f : Fault} → at (num 2) s p ≡ refused f → refused f ≡ token_at s p
   unfolding token_at placed and_then
-  no-id e k h d = sym (ap (placed token_of) (token-then s p) ∙ rw (lack_of id_answer e k h d))
+  no-id e = sym (ap (placed token_of) (token-then s p) ∙ rw e)
 
 -- the bytes of a compact number, by its place in its range of ids
 pub compact-is : (x b : ℕ) (negative : Bool) → x < b + 8 → number (x - b) (λ n. F.F64 (signed_by negative n)) ≡ compact_of (x - b) negative

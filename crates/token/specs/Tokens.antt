@@ -1,21 +1,19 @@
 -- The code's token for a value of the definition, and what stands at a place.
-use Rattle.std.specs.Prelude.{ℕ, List, take, drop}
+use Rattle.std.specs.Prelude.{◌≡◌, ℕ, List, take, drop, Result, Ok, Err, Option as MayBe, Some, None}
 use Rattle.std.proofs.Math.Option.{Option, none, some}
-use Rattle.form.specs.Refusals.{too_short, bad_colour}
 use Rattle.form.specs.Values as F
-use Rattle.form.specs.Readers.{Answer, found, refused, ByPlace, at, placed}
+use Rattle.form.specs.Readers.{Answer, ByPlace, at, placed}
 use Rattle.form.specs.Reading.{token}
-use Rattle.payload.specs.Answers.{text_of, colour_of}
-use Rattle.payload.specs.declared.answers.Alpha.{Alpha}
-use Rattle.payload.specs.declared.answers.Alpha.TheVariants.{Absent, Given}
+use Rattle.payload.specs.Answers.{text_of, colour_of, lexed_as}
+use Rattle.payload.specs.declared.answers.Eof.{Eof}
+use Rattle.payload.specs.declared.answers.LexError.{LexError}
+use Rattle.payload.specs.declared.answers.LexError.TheVariants.{Eof as Lacks}
 use Rattle.token.specs.declared.Token.{Token}
 use Rattle.token.specs.declared.Token.TheVariants as T
-use Rattle.token.specs.declared.ReadToken.{ReadToken}
-use Rattle.token.specs.declared.ReadToken.TheVariants as R
 
-abbrev pub alpha_for : Option ℕ → Alpha
-alpha_for none = Absent
-alpha_for (some a) = Given a
+abbrev pub alpha_for : Option ℕ → MayBe ℕ
+alpha_for none = None
+alpha_for (some a) = Some a
 
 -- a value whose bytes end at place e, as a token: a text is the last part of its token
 unfoldable pub token_of : ℕ → F.Value → Token
@@ -57,7 +55,10 @@ value_of s (T.Id i) = F.Id i
 unfoldable pub token_at : ByPlace Token
 token_at s at' = placed token_of (at token s at')
 
-abbrev pub token_answer : ReadToken → Answer Token
-token_answer (R.Got n t) = found t n
-token_answer (R.Eof m) = refused (too_short m)
-token_answer R.InvalidRgb = refused bad_colour
+abbrev pub token_answer : Result (Token × ℕ) LexError → Answer Token
+token_answer = lexed_as (λ t. t)
+
+-- what a payload's read answers, as a token: the value that it reads makes it, and its refusal stays
+abbrev pub Makes : {V : Type 0} → (V → Token → Type 0) → Result (V × ℕ) Eof → Result (Token × ℕ) LexError → Type 0
+Makes made (Ok x) r = (t : Token) × made x.0 t × (r ≡ Ok (t, x.1))
+Makes made (Err e) r = r ≡ Err (Lacks e.0)

@@ -5,25 +5,22 @@ ghost use Rattle.token.specs.Texts.{place_answer, place_of};
 
 use payload::Text;
 
-// Whether a text lies within the bytes; a text at a bad place is named by its start.
-#[derive(Clone, Copy)]
-pub enum TextAnswer {
-    Within,
-    BadPlace(usize),
-}
+// A text does not lie within the bytes; it is named by its start.
+#[derive(Clone, Copy, Debug, PartialEq, Eq)]
+pub struct BadPlace(pub usize);
 
 // Whether the bytes hold the text.
-pub fn text(bytes: &[u8], t: Text) -> TextAnswer
+pub fn text(bytes: &[u8], t: Text) -> Result<(), BadPlace>
     ensures { place_answer result ≡ place_of bytes.now t }
 {
     let start = t.start;
     let len = t.len;
     if start <= bytes.len() {
         if len <= bytes.len() - start {
-            return TextAnswer::Within;
+            return Ok(());
         }
     }
-    TextAnswer::BadPlace(start)
+    Err(BadPlace(start))
 }
 
 // The part of the bytes that holds the text; none of them at a bad place.

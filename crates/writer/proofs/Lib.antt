@@ -1,4 +1,5 @@
 pub mod Stores
+pub mod Penned
 pub mod Sizes
 pub mod Fitting
 pub mod LayingOut

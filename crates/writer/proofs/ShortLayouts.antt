@@ -5,11 +5,11 @@ use mathlib.Core.Path.{◌≡◌, refl, ◌∙◌}
 use mathlib.Core.Bool.{Bool, true, false, ◌||◌}
 use mathlib.Core.List.{List, [], ◌∷◌}
 use lib.ListN.{length, take, drop}
-use lib.Dec.{eqb}
-use borrow.Author.Tests.{lt-ltb, le-ltb}
+use lib.Dec.{eqb, ltb}
+use borrow.Author.Tests.{lt-ltb, le-ltb, ltb-true, ltb-false}
 use denote.Enum.Declared.{tag_of}
 use types.Run.{OneOf}
-use Rattle.form.specs.Numbers.{le_bytes, negated}
+use Rattle.form.specs.Numbers.{pick, le_bytes, negated}
 use Rattle.form.specs.Values as F
 use Rattle.form.specs.Values.{kind}
 use Rattle.form.specs.Spelling.{tag, body, spell, reason}
@@ -29,7 +29,7 @@ use Rattle.token.specs.Texts.{place_of}
 use Rattle.writer.specs.Writes.{misplaced, write_token, write_shortest_token}
 use Rattle.writer.specs.declared.layout.Layout.{Layout}
 use Rattle.writer.specs.declared.layout.Layout.TheVariants.{Number, Text, Empty}
-use Rattle.writer.specs.Layouts.{spelled_by, misplaced_by, reason_by, write_by, LaysOut, LaysOutShortest}
+use Rattle.writer.specs.Layouts.{spelled_by, misplaced_by, reason_by, write_by, magnitude, before_ids, LaysOut, LaysOutShortest}
 use Rattle.writer.proofs.LayingOut.{text-length, lays-out}
 
 -- ---- floats
@@ -39,28 +39,46 @@ float_out : (x i w n : ℕ) → shortest (F.F64 x) ≡ spelled_by [] (Number (re
 unfolding write_by misplaced_by reason_by spelled_by write_shortest_token misplaced value_of write_shortest short_reason reason unless kind
 float_out x i w n e room s = rw e
 
-pub compact-out : (x w : ℕ) → Width x w → w ≤ 7 → LaysOutShortest (T.F64 x) (Number (record { 0 = 0x0d47 + w }) w x)
+compact-out : (x w : ℕ) → Width x w → w ≤ 7 → LaysOutShortest (T.F64 x) (Number (record { 0 = 0x0d47 + w }) w x)
 unfolding spelled_by
 compact-out x w k l = float_out x (0x0d47 + w) w x (float-compact x w k l)
 
 module _ (x m : ℕ) (h : 2 ^ 63 ≤ x) (f : x < 2 ^ 64) (e : m ≡ 2 ^ 64 - x) where
-  magnitude : negated x ≡ m
-  magnitude = omega arith
+  same : negated x ≡ m
+  same = omega arith
 
-  pub negated-out : (w : ℕ) → Width m w → w ≤ 7 → LaysOutShortest (T.F64 x) (Number (record { 0 = 0x0d4e + w }) w m)
+  negated-out : (w : ℕ) → Width m w → w ≤ 7 → LaysOutShortest (T.F64 x) (Number (record { 0 = 0x0d4e + w }) w m)
   unfolding spelled_by
   negated-out w k l =
       let o : 1 ≤ w = more_bytes {w = 0} (omega arith) k.holds in
-      float_out x (0x0d4e + w) w m (rw magnitude at (float_negated x w (omega arith) (rw magnitude k) o l))
+      float_out x (0x0d4e + w) w m (rw same at (float_negated x w (omega arith) (rw same k) o l))
 
   -- more than seven bytes
-  pub long-negated-out : (w : ℕ) → Width m w → 7 < w → LaysOutShortest (T.F64 x) (Number (record { 0 = 0x0167 }) 8 x)
+  long-negated-out : (w : ℕ) → Width m w → 7 < w → LaysOutShortest (T.F64 x) (Number (record { 0 = 0x0167 }) 8 x)
   unfolding spelled_by spell tag body
-  long-negated-out w k l = float_out x 0x0167 8 x (float_plain x (omega arith) (rw magnitude (k.least 7 l)))
+  long-negated-out w k l = float_out x 0x0167 8 x (float_plain x (omega arith) (rw same (k.least 7 l)))
 
-pub long-out : (x w : ℕ) → x < 2 ^ 63 → Width x w → 7 < w → LaysOutShortest (T.F64 x) (Number (record { 0 = 0x0167 }) 8 x)
+long-out : (x w : ℕ) → x < 2 ^ 63 → Width x w → 7 < w → LaysOutShortest (T.F64 x) (Number (record { 0 = 0x0167 }) 8 x)
 unfolding spelled_by spell tag body
 long-out x w h k l = let q : 256 ^ 7 ≤ x = k.least 7 l in float_out x 0x0167 8 x (float_plain x q (omega arith))
+
+-- ---- a float, by its magnitude
+
+module _ (x : ℕ) (f : x < 2 ^ 64) where
+  short : (b : Bool) → ltb x (2 ^ 63) ≡ b → (w : ℕ) → Width (pick b x (negated x)) w → w ≤ 7
+      → LaysOutShortest (T.F64 x) (Number (record { 0 = pick b 0x0d47 0x0d4e + w }) w (pick b x (negated x)))
+  short true h w k l = compact-out x w k l
+  short false h w k l = let o : 2 ^ 63 ≤ x = ltb-false x (2 ^ 63) h in negated-out x (negated x) o f (omega arith) w k l
+
+  whole : (b : Bool) → ltb x (2 ^ 63) ≡ b → (w : ℕ) → Width (pick b x (negated x)) w → 7 < w → LaysOutShortest (T.F64 x) (Number (record { 0 = 0x0167 }) 8 x)
+  whole true h w k l = long-out x w (ltb-true x (2 ^ 63) h) k l
+  whole false h w k l = let o : 2 ^ 63 ≤ x = ltb-false x (2 ^ 63) h in long-negated-out x (negated x) o f (omega arith) w k l
+
+  pub short-out : (w : ℕ) → Width (magnitude x) w → w ≤ 7 → LaysOutShortest (T.F64 x) (Number (record { 0 = before_ids x + w }) w (magnitude x))
+  short-out = short (ltb x (2 ^ 63)) refl
+
+  pub whole-out : (w : ℕ) → Width (magnitude x) w → 7 < w → LaysOutShortest (T.F64 x) (Number (record { 0 = 0x0167 }) 8 x)
+  whole-out = whole (ltb x (2 ^ 63)) refl
 
 -- ---- lookups
 

@@ -6,8 +6,7 @@ use mathlib.Core.List.{List, ◌++◌}
 use lib.ListN.{length, length-append}
 use Rattle.form.specs.Numbers.{le_bytes}
 use Rattle.form.specs.Spelling.{spelled_channel, spelled_alpha}
-use Rattle.payload.specs.declared.answers.Alpha.{Alpha}
-use Rattle.payload.specs.declared.answers.Alpha.TheVariants.{Absent, Given}
+use Rattle.std.specs.Prelude.{Option, None, Some}
 use Rattle.payload.specs.declared.answers.Rgb.{Rgb}
 use Rattle.laws.proofs.LittleEndian.{length-bytes}
 use Rattle.laws.proofs.ReadsBack.{channel-length}
@@ -20,14 +19,14 @@ pub text-size : (i : ℕ) (t : List ℕ) → length (id_text i t) ≡ 4 + length
 text-size i t = simp (length-append, length-bytes) (omega arith)
 
 -- a colour's end with and without alpha
-abbrev pub end_size : Alpha → ℕ
-end_size Absent = 2
-end_size (Given a) = 8
+abbrev pub end_size : Option ℕ → ℕ
+end_size None = 2
+end_size (Some a) = 8
 
-pub end-size : (a : Alpha) → length (colour_end a) ≡ end_size a
+pub end-size : (a : Option ℕ) → length (colour_end a) ≡ end_size a
 unfolding spelled_channel spelled_alpha le_bytes
-end-size Absent = refl
-end-size (Given a) = refl
+end-size None = refl
+end-size (Some a) = refl
 
 pub channels-size : (c : Rgb) → length (channels c) ≡ 18 + end_size c.a
 channels-size c =

@@ -1,19 +1,18 @@
 -- No public promise goes through this file. The layout of a token, what it spells, and what writing it gives: the code's way to `write_token`.
-use Rattle.std.specs.Prelude.{ℕ, ◌^◌, ◌≡◌, List, ◌++◌, length, ltb}
+use Rattle.std.specs.Prelude.{ℕ, ◌^◌, ◌≡◌, List, ◌++◌, length, ltb, Result, Option as MayBe}
 use Rattle.std.proofs.Math.Option.{Option, none, some}
-use Rattle.form.specs.Numbers.{pick, le_bytes}
+use Rattle.form.specs.Numbers.{pick, le_bytes, negated}
 use Rattle.form.specs.Table.{reserved}
 use Rattle.form.specs.Ids.{OPEN, CLOSE}
 use Rattle.form.specs.Refusals.{Refusal, LongString, WideLookup, ReservedId}
 use Rattle.form.specs.Spelling.{spelled_channel, spelled_alpha}
 use Rattle.form.specs.Writing.{Output, outcome, fitted, unless}
-use Rattle.payload.specs.declared.answers.Alpha.{Alpha}
 use Rattle.payload.specs.declared.answers.Rgb.{Rgb as Colour}
 use Rattle.payload.specs.Answers.{alpha_of}
 use Rattle.token.specs.declared.Token.{Token}
 use Rattle.payload.specs.Texts.{part_of}
 use Rattle.token.specs.Texts.{place_of}
-use Rattle.writer.specs.declared.Wrote.{Wrote}
+use Rattle.writer.specs.declared.WriteError.{WriteError}
 use Rattle.writer.specs.Writes.{write_token, write_shortest_token, wrote_outcome}
 use Rattle.writer.specs.declared.layout.Layout.{Layout}
 use Rattle.writer.specs.declared.layout.Layout.TheVariants.{Number, Text, Empty, Lookup, Rgb, Id}
@@ -27,7 +26,7 @@ abbrev pub id_text : ℕ → List ℕ → List ℕ
 id_text i t = le_bytes 2 i ++ (le_bytes 2 (length t) ++ t)
 
 -- a colour's end; its channels and its end; and all of it
-abbrev pub colour_end : Alpha → List ℕ
+abbrev pub colour_end : MayBe ℕ → List ℕ
 colour_end a = spelled_alpha (alpha_of a) ++ le_bytes 2 CLOSE
 
 abbrev pub channels : Colour → List ℕ
@@ -65,7 +64,7 @@ unfoldable pub write_by : ℕ → List ℕ → Layout → Output
 write_by room s p = unless (misplaced_by s p) (unless (reason_by p) (fitted room (spelled_by s p)))
 
 -- r is the answer for a layout that has no text, whatever the bytes are
-abbrev pub Judged : ℕ → Layout → Wrote → Type 0
+abbrev pub Judged : ℕ → Layout → Result ℕ WriteError → Type 0
 Judged room p r = (s : List ℕ) → wrote_outcome r ≡ outcome (write_by room s p)
 
 -- a token has such a layout that writing it is writing the token
@@ -75,3 +74,11 @@ LaysOut t p = (room : ℕ) (s : List ℕ) → write_by room s p ≡ write_token 
 -- or writing its shortest spelling
 abbrev pub LaysOutShortest : Token → Layout → Type 0
 LaysOutShortest t p = (room : ℕ) (s : List ℕ) → write_by room s p ≡ write_shortest_token room s t
+
+-- a float below 2 ^ 63 is its magnitude; from there on it is the negation of it
+abbrev pub magnitude : ℕ → ℕ
+magnitude x = pick (ltb x (2 ^ 63)) x (negated x)
+
+-- the number before the ids of its sign
+abbrev pub before_ids : ℕ → ℕ
+before_ids x = pick (ltb x (2 ^ 63)) 0x0d47 0x0d4e

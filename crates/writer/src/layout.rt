@@ -1,7 +1,7 @@
 // The layout of a token: what its spelling is put together from.
-ghost use Rattle.std.specs.Prelude.{◌^◌, ◌≤◌, ◌<◌};
+ghost use Rattle.std.specs.Prelude.{◌≡◌};
 ghost use Rattle.form.specs.Shortest.{Width};
-ghost use Rattle.writer.specs.Layouts.{LaysOut, LaysOutShortest};
+ghost use Rattle.writer.specs.Layouts.{magnitude as Layouts·magnitude, before_ids, LaysOut, LaysOutShortest};
 
 use lexeme::{LexemeId, number};
 use payload::{Rgb, Text, bits};
@@ -50,40 +50,26 @@ fn width_of(x: u64) -> u8
     ((71 - zeros) / 8) as u8
 }
 
-// A float below 2^63, which is no negative number.
-fn compact(x: u64) -> Layout
-    requires { x < 2 ^ 63 }
-    ensures { LaysOutShortest (Token.F64 x) result }
+// The magnitude of a float, and the id before those of its sign; a float from 2^63 on is the negation of its magnitude.
+fn magnitude(x: u64) -> (u64, u16)
+    ensures { result ≡ (Layouts·magnitude x, before_ids x) }
 {
-    let width = width_of(x);
-    if 7 < width {
-        return Layout::Number(LexemeId::F64, 8, x);
+    if x < 0x8000_0000_0000_0000 {
+        return (x, number::FIXED5_ZERO);
     }
-    let id = LexemeId::new(number::FIXED5_ZERO + width as u16);
-    Layout::Number(id, width, x)
-}
-
-// A float from 2^63 on, which is the negation of its magnitude.
-fn compact_negated(x: u64) -> Layout
-    requires { 2 ^ 63 ≤ x }
-    ensures { LaysOutShortest (Token.F64 x) result }
-{
-    let magnitude = u64::MAX - x + 1;
-    let width = width_of(magnitude);
-    if 7 < width {
-        return Layout::Number(LexemeId::F64, 8, x);
-    }
-    let id = LexemeId::new(number::FIXED5_U56 + width as u16);
-    Layout::Number(id, width, magnitude)
+    (u64::MAX - x + 1, number::FIXED5_U56)
 }
 
 fn float(x: u64) -> Layout
     ensures { LaysOutShortest (Token.F64 x) result }
 {
-    if x < 0x8000_0000_0000_0000 {
-        return compact(x);
+    let (n, before) = magnitude(x);
+    let width = width_of(n);
+    if 7 < width {
+        return Layout::Number(LexemeId::F64, 8, x);
     }
-    compact_negated(x)
+    let id = LexemeId::new(before + width as u16);
+    Layout::Number(id, width, n)
 }
 
 fn lookup(x: u32) -> Layout

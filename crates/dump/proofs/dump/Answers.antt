@@ -1,25 +1,23 @@
--- There is room for every dump, so that a written one is whole and none is declined. Assumes nothing.
-use mathlib.Core.Path.{sym, ap, ◌∙◌}
+-- There is room for every dump, so that one is written, and whole. Assumes nothing.
+use mathlib.Core.Path.{◌≡◌, sym, ◌∙◌}
+use lib.ListN.{length}
+use Rattle.std.specs.Prelude.{Ok}
+use Rattle.form.specs.Listing.{listing}
 use Rattle.laws.proofs.LittleEndian.{bytes-all}
-use Rattle.listing.specs.Answers.{listed_outcome}
-use Rattle.dump.proofs.Whole.{dumped, never-declined}
+use Rattle.dump.proofs.Whole.{listed, filled}
 use Rattle.dump.proofs.dump.Goals as goal
 
-pub returns-in-Written : goal.returns-in-Written
-returns-in-Written c =
+pub unwrap-requires : goal.unwrap-requires
+unwrap-requires c =
     let s = c.args.bytes.now in
-    let whole = dumped s c.args.out.now (bytes-all s c.shared_slice_known-1.given) c.requires
-    (sym (ap listed_outcome c.in-Written.is) ∙ c.list.ensures.answer) c.list.ensures.output in
-    record { len = whole.0; output = whole.1 }
+    rw (listed s c.args.out.now (bytes-all s c.type_inv.bytes) c.requires c.list.result c.list.ensures.answer)
 
-pub returns-in-NoRoom : goal.returns-in-NoRoom
-returns-in-NoRoom c =
+pub returns-clause-len : goal.returns-clause-len
+returns-clause-len c =
     let s = c.args.bytes.now in
-    never-declined s c.args.out.now (bytes-all s c.shared_slice_known-1.given) c.requires
-    (sym (ap listed_outcome c.in-NoRoom.is) ∙ c.list.ensures.answer)
+    let is : Ok c.unwrap.result ≡ Ok (length (listing s)) =
+    sym c.unwrap.ensures ∙ listed s c.args.out.now (bytes-all s c.type_inv.bytes) c.requires c.list.result c.list.ensures.answer in
+    cc
 
-pub returns-in-TooLong : goal.returns-in-TooLong
-returns-in-TooLong c =
-    let s = c.args.bytes.now in
-    never-declined s c.args.out.now (bytes-all s c.shared_slice_known-1.given) c.requires
-    (sym (ap listed_outcome c.in-TooLong.is) ∙ c.list.ensures.answer)
+pub returns-clause-output : goal.returns-clause-output
+returns-clause-output c = filled c.args.bytes.now c.args.out.now (bytes-all c.args.bytes.now c.type_inv.bytes) c.requires c.list.ensures.output

@@ -1,14 +1,22 @@
 -- `keys::is_key` meets its contract. Assumes nothing.
-use borrow.Author.Tests.{not-true, not-false}
-use Rattle.keys.proofs.Passing.{unwanted, inner, at_top_lem}
-use Rattle.std.proofs.Common.{ap, not}
+use borrow.Author.Tests.{ne_eqb}
+use Rattle.keys.proofs.Passing.{unwanted, inner, at_top_lem, below-top}
 use Rattle.keys.proofs.is_key.Goals as goal
+use Rattle.keys.proofs.is_key.Goals.{then-wanted, else-wanted}
 
-pub returns-then-not-wanted : goal.returns-then-not-wanted
-returns-then-not-wanted c = unwanted _ _ _ _ _ (not-true _ (ap not c.if-not-wanted.true))
+pub returns-then-depth-eq0 : goal.returns-then-depth-eq0
+returns-then-depth-eq0 c = at_top_lem _ _ _ _ _ c.if-depth-eq0.true.0 c.if-depth-eq0.true.1 c.makes_key.ensures
 
-pub returns-then-depth-ne0 : goal.returns-then-depth-ne0
-returns-then-depth-ne0 c = inner _ _ _ _ _ (not-false _ (ap not c.if-not-wanted.false)) c.if-depth-ne0.true
-
-pub returns : goal.returns
-returns c = at_top_lem _ _ _ _ _ (not-false _ (ap not c.if-not-wanted.false)) c.if-depth-ne0.false c.makes_key.ensures
+pub returns-else-depth-eq0 : goal.returns-else-depth-eq0
+returns-else-depth-eq0 c =
+    let a = c.args in
+    elim c.if-wanted.branch [
+      | then-wanted w ↦
+          let d = below-top c.if-depth-eq0.either w.if-wanted.true in
+          let e = ne_eqb a.depth 0 d in
+          let k = inner a.wanted a.value a.depth a.bytes.now a.at w.if-wanted.true d in
+          cc
+      | else-wanted w ↦
+          let k = unwanted a.wanted a.value a.depth a.bytes.now a.at w.if-wanted.false in
+          cc
+    ]

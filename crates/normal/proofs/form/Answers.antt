@@ -1,49 +1,36 @@
 -- A save's normal form is whole, or the line of its first refusal stands in its place: there is room for either. Assumes nothing.
 use native.Mathlib.Omega.{arith}
-use mathlib.Core.Path.{sym, ap, ◌∙◌}
 use Rattle.form.specs.Refusals as R
-use Rattle.form.specs.Refusals.{refusal_value, refusal_values}
-use Rattle.form.specs.Listing.{refusal_word, error_line}
 use Rattle.laws.proofs.LittleEndian.{bytes-all}
-use Rattle.normaliser.specs.Answers.{normalised_outcome}
+use Rattle.payload.specs.Answers.{refusal_of}
 use Rattle.normal.proofs.Whole.{normalised, why, lined}
 use Rattle.normal.proofs.form.Goals as goal
 
-pub returns-in-Written : goal.returns-in-Written
-returns-in-Written c =
-    let whole = normalised c.args.bytes.now c.args.out.now (bytes-all c.args.bytes.now c.shared_slice_known-1.given) c.requires
-    (sym (ap normalised_outcome c.in-Written.is) ∙ c.normalise.ensures.answer) c.normalise.ensures.output in
+pub returns-in-Ok : goal.returns-in-Ok
+returns-in-Ok c =
+    let whole = normalised c.args.bytes.now c.args.out.now (bytes-all c.args.bytes.now c.type_inv.bytes) c.requires c.in-Ok.ensures.answer c.in-Ok.ensures.output in
     record { len = whole.0; output = whole.1 }
 
-pub returns-in-Eof : goal.returns-in-Eof
-unfolding error_line refusal_word refusal_value refusal_values
-returns-in-Eof c =
-    let line = lined c.args.bytes.now c.args.out.now (bytes-all c.args.bytes.now c.shared_slice_known-1.given) c.requires (R.Eof _ _)
-    (sym (ap normalised_outcome c.in-Eof.is) ∙ c.normalise.ensures.answer) c.normalise.ensures.output
-    (omega arith) c.put_error.ensures in
+pub returns-in-Err-Refused : goal.returns-in-Err-Refused
+returns-in-Err-Refused c =
+    let follows = rw c.in-Err-Refused.field-0-is at c.in-Err-Refused.ensures in
+    let line = lined c.args.bytes.now c.args.out.now (bytes-all c.args.bytes.now c.type_inv.bytes) c.requires (refusal_of c.in-Err-Refused.e)
+    follows.answer follows.output (omega arith) c.put_refused.ensures in
     record { len = line.0; output = line.1 }
 
-pub returns-in-InvalidRgb : goal.returns-in-InvalidRgb
-unfolding error_line refusal_word refusal_value refusal_values
-returns-in-InvalidRgb c =
-    let line = lined c.args.bytes.now c.args.out.now (bytes-all c.args.bytes.now c.shared_slice_known-1.given) c.requires (R.InvalidRgb _)
-    (sym (ap normalised_outcome c.in-InvalidRgb.is) ∙ c.normalise.ensures.answer) c.normalise.ensures.output
-    (omega arith) c.put_error-in-InvalidRgb.ensures in
+pub returns-in-Err-WideLookup : goal.returns-in-Err-WideLookup
+returns-in-Err-WideLookup c =
+    let follows = rw c.in-Err-WideLookup.field-0-is at c.in-Err-WideLookup.ensures in
+    let line = lined c.args.bytes.now c.args.out.now (bytes-all c.args.bytes.now c.type_inv.bytes) c.requires (R.WideLookup c.in-Err-WideLookup.at)
+    follows.answer follows.output (omega arith) c.put_wide.ensures in
     record { len = line.0; output = line.1 }
 
-pub returns-in-WideLookup : goal.returns-in-WideLookup
-returns-in-WideLookup c =
-    let line = lined c.args.bytes.now c.args.out.now (bytes-all c.args.bytes.now c.shared_slice_known-1.given) c.requires (R.WideLookup _)
-    (sym (ap normalised_outcome c.in-WideLookup.is) ∙ c.normalise.ensures.answer) c.normalise.ensures.output
-    (omega arith) c.put_wide.ensures in
-    record { len = line.0; output = line.1 }
+pub unreachable-requires : goal.unreachable-requires
+unreachable-requires c =
+    let follows = rw c.in-Err-NoRoom.field-0-is at c.in-Err-NoRoom.ensures in
+    absurd (why c.args.bytes.now c.args.out.now (bytes-all c.args.bytes.now c.type_inv.bytes) c.requires (R.NoRoom _) follows.answer).1
 
-pub returns-in-NoRoom : goal.returns-in-NoRoom
-returns-in-NoRoom c =
-    absurd (why c.args.bytes.now c.args.out.now (bytes-all c.args.bytes.now c.shared_slice_known-1.given) c.requires (R.NoRoom _)
-    (sym (ap normalised_outcome c.in-NoRoom.is) ∙ c.normalise.ensures.answer)).1
-
-pub returns-in-TooLong : goal.returns-in-TooLong
-returns-in-TooLong c =
-    absurd (why c.args.bytes.now c.args.out.now (bytes-all c.args.bytes.now c.shared_slice_known-1.given) c.requires (R.TooLong _)
-    (sym (ap normalised_outcome c.in-TooLong.is) ∙ c.normalise.ensures.answer)).1
+pub unreachable-requires-in-Err-TooLong : goal.unreachable-requires-in-Err-TooLong
+unreachable-requires-in-Err-TooLong c =
+    let follows = rw c.in-Err-TooLong.field-0-is at c.in-Err-TooLong.ensures in
+    absurd (why c.args.bytes.now c.args.out.now (bytes-all c.args.bytes.now c.type_inv.bytes) c.requires (R.TooLong _) follows.answer).1

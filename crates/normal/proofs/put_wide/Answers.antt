@@ -5,4 +5,4 @@ use Rattle.normal.proofs.put_wide.Goals as goal
 
 pub returns : goal.returns
 unfolding error_line refusal_word refusal_value refusal_values
-returns c = c.put_error.ensures
+returns c = c.put_line.ensures

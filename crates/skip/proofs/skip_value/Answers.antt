@@ -1,21 +1,20 @@
 -- `skip::skip_value` meets its contract. Assumes nothing.
-use mathlib.Core.Path.{sym, ◌∙◌}
+use mathlib.Core.Path.{◌≡◌, sym, ◌∙◌}
 use borrow.Author.Tests.{eqb-false}
-use Rattle.payload.specs.Answers.{rgb_answer}
-use Rattle.payload.proofs.LetElse.{got_of, colour-else}
+use Rattle.std.proofs.Common.{rules}
+use Rattle.payload.proofs.Handed.{handed, given_ok, given_err}
 use Rattle.skip.proofs.Turns.{value-is, past-colour, no-colour}
-use borrow.Enum.Refused.{opened}
 use Rattle.skip.proofs.skip_value.Goals as goal
 
-pub returns-in_default : goal.returns-in_default
-returns-in_default c =
+pub returns-in_err-end : goal.returns-in_err-end
+returns-in_err-end c =
     let is = sym c.is.ensures ∙ c.if-is.true in
-    sym (no-colour _ _ _ is (colour-else c.read_rgb-colour.result (opened c.in_default.in_default-own.keys2) c.read_rgb-colour.ensures c.refusal.ensures))
+    let g = given_err _ _ c.map_err.ensures.cases c.in_err-end.was in
+    let m : c.in_err-end.field-0.0 ≡ record { at = c.args.at; kind = g.0 } = search rules in
+    rw (handed _ c.from_residual.ensures) (no-colour _ _ _ is c.read_rgb.ensures g.1 m)
 
 pub returns-then-is : goal.returns-then-is
-returns-then-is c =
-    let is = sym c.is.ensures ∙ c.if-is.true in
-    sym (past-colour _ _ _ is (got_of rgb_answer c.read_rgb-colour.ensures c.in-Got.is))
+returns-then-is c = past-colour _ _ _ (sym c.is.ensures ∙ c.if-is.true) c.read_rgb.ensures (given_ok _ _ c.map_err.ensures.cases c.in_ok-end.was)
 
 pub returns : goal.returns
 returns c = c.skip_from.ensures ∙ value-is _ _ _ (eqb-false _ _ (sym c.is.ensures ∙ c.if-is.false))

@@ -1,18 +1,13 @@
 -- `token::rgb_token` meets its contract. Assumes nothing.
-use mathlib.Core.Path.{refl, sym, ap, ◌∙◌}
 use Rattle.form.specs.Readers.{placed}
-use Rattle.payload.specs.Answers.{rgb_answer}
-use Rattle.payload.proofs.LetElse.{colour-else}
-use Rattle.token.specs.Tokens.{token_of}
-use Rattle.token.proofs.Payloads.{getting, colour-token}
-use borrow.Enum.Refused.{opened}
+use Rattle.payload.proofs.Handed.{handed}
+use Rattle.token.proofs.Payloads.{colour-token}
 use Rattle.token.proofs.rgb_token.Goals as goal
 
-pub returns-in_default : goal.returns-in_default
+pub returns-in_err-colour : goal.returns-in_err-colour
 unfolding placed
-returns-in_default c =
-    let r = c.args.r in
-    c.refused.ensures ∙ sym (ap (placed token_of) (colour-else r (opened c.in_default.in_default-own.keys2) refl c.refusal.ensures))
+returns-in_err-colour c = rw (handed _ c.from_residual.ensures, c.in_err-colour.was)
 
 pub returns : goal.returns
-returns c = rw (← colour-token c.in-Got.next c.in-Got.x) (getting rgb_answer token_of c.in-Got.is refl)
+unfolding placed
+returns c = rw (c.in_ok-colour.was, colour-token c.in_ok-colour.next c.in_ok-colour.colour)

@@ -2,20 +2,21 @@
 use native.Mathlib.Omega.{arith}
 use mathlib.Core.Path.{refl}
 use Rattle.writer.proofs.Judging.{not-stored, room, stored}
-use borrow.Enum.Refused.{opened}
+use Rattle.payload.proofs.Handed.{handed}
 use Rattle.writer.proofs.copy.Goals as goal
 
-pub returns-in_default : goal.returns-in_default
-returns-in_default c =
+pub returns-in_err-n : goal.returns-in_err-n
+returns-in_err-n c =
     let a = c.args in
-    not-stored a.out.now a.src.now c.fit-answer.result refl c.fit-answer.ensures (opened c.in_default.in_default-own.keys2)
+    rw (handed _ c.from_residual.ensures) (not-stored a.out.now a.src.now refl _ c.in_err-n.ensures)
 
 pub all-requires : goal.all-requires
 all-requires c =
     let a = c.args in
-    omega (arith, room a.out.now a.src.now c.fit-answer.result refl c.fit-answer.ensures c.in-Written.is)
+    omega (arith, room a.out.now a.src.now refl c.in_ok-n.ensures)
 
 pub returns : goal.returns
 returns c =
     let a = c.args in
-    stored a.out.now a.src.now c.fit-answer.result refl c.fit-answer.ensures c.in-Written.is (omega arith) c.all.ensures
+    let done = stored a.out.now a.src.now refl c.in_ok-n.ensures (omega arith) c.all.ensures.put in
+    grind (arith, done)

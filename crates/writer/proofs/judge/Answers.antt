@@ -11,24 +11,12 @@ unfolding write_by misplaced_by reason_by spelled_by unless outcome
 returns-in-Number c =
     rw c.in-Number.is (c.fit.ensures _ (number_size c.in-Number.field-0.0 c.in-Number.width c.in-Number.field-2))
 
-pub returns-in-Text : goal.returns-in-Text
-returns-in-Text c = rw c.in-Text.is c.judge_text.ensures
-
-pub returns-in-Empty : goal.returns-in-Empty
-returns-in-Empty c = rw c.in-Empty.is c.judge_empty.ensures
-
-pub returns-in-Lookup : goal.returns-in-Lookup
-returns-in-Lookup c = rw c.in-Lookup.is (c.judge_lookup.ensures _)
-
-pub returns-in-Absent : goal.returns-in-Absent
+pub returns-in-None : goal.returns-in-None
 unfolding write_by misplaced_by reason_by spelled_by unless outcome
-returns-in-Absent c =
-    rw c.in-Rgb.is (c.fit-in-Absent.ensures _ (colour-size c.in-Rgb.c ∙ ap (λ a. 22 + end_size a) c.in-Absent.is))
+returns-in-None c =
+    rw c.in-Rgb.is (c.fit-in-None.ensures _ (colour-size c.in-Rgb.c ∙ ap (λ a. 22 + end_size a) c.in-None.is))
 
-pub returns-in-Given : goal.returns-in-Given
+pub returns-in-Some : goal.returns-in-Some
 unfolding write_by misplaced_by reason_by spelled_by unless outcome
-returns-in-Given c =
-    rw c.in-Rgb.is (c.fit-in-Given.ensures _ (colour-size c.in-Rgb.c ∙ ap (λ a. 22 + end_size a) c.in-Given.is))
-
-pub returns-in-Id : goal.returns-in-Id
-returns-in-Id c = rw c.in-Id.is (c.judge_id.ensures _)
+returns-in-Some c =
+    rw c.in-Rgb.is (c.fit-in-Some.ensures _ (colour-size c.in-Rgb.c ∙ ap (λ a. 22 + end_size a) c.in-Some.is))

@@ -1,23 +1,22 @@
 -- `writer::judge_empty` meets its contract. Assumes nothing.
-use mathlib.Core.Path.{◌≡◌, sym, ap, ◌∙◌}
+use mathlib.Core.Path.{◌≡◌, sym}
 use mathlib.Core.Option.{none, some}
 use Rattle.form.specs.Refusals.{BadPlace}
 use Rattle.form.specs.Writing.{outcome, unless}
 use Rattle.laws.proofs.LittleEndian.{length-bytes}
-use Rattle.token.specs.Texts.{place_of, place_answer}
 use Rattle.writer.specs.Layouts.{spelled_by, misplaced_by, reason_by, write_by}
+use Rattle.token.specs.Texts.{place_of}
+use Rattle.payload.proofs.Handed.{handed}
 use Rattle.writer.proofs.judge_empty.Goals as goal
 
-pub returns-in-BadPlace : goal.returns-in-BadPlace
+pub returns-in_err-text : goal.returns-in_err-text
 unfolding write_by misplaced_by reason_by spelled_by unless outcome
-returns-in-BadPlace c =
-    let a = c.args in
-    let q : place_of a.bytes.now a.t ≡ some (BadPlace c.in-BadPlace.start) = sym c.text-place.ensures ∙ ap place_answer c.in-BadPlace.is in
-    rw q
+returns-in_err-text c =
+    let q : place_of c.args.bytes.now c.args.t ≡ some (BadPlace c.in_err-text.field-0.0.0) = sym c.in_err-text.ensures in
+    rw (handed _ c.from_residual.ensures, q)
 
-pub returns-in-Within : goal.returns-in-Within
+pub returns : goal.returns
 unfolding write_by misplaced_by reason_by spelled_by unless outcome
-returns-in-Within c =
-    let a = c.args in
-    let q : place_of a.bytes.now a.t ≡ none = sym c.text-place.ensures ∙ ap place_answer c.in-Within.is in
-    rw q (c.fit.ensures _ (length-bytes 2 0x0d42))
+returns c =
+    let q : place_of c.args.bytes.now c.args.t ≡ none = sym c.in_ok-text.ensures in
+    rw q (c.judge_plain.ensures _ (length-bytes 2 0x0d42))

@@ -1,14 +1,14 @@
 -- `capi::source_reads::stivlaheim_source_read_lexeme_id` meets its contract. Assumes nothing.
-use Rattle.source.specs.Answers.{id_answer}
-use Rattle.capi.proofs.Called.{not-asked, six-words, called-by}
+use mathlib.Core.Path.{refl, sym, ◌∙◌}
+use Rattle.source.specs.Answers.{drawn_as}
+use Rattle.capi.specs.Words.{number_words}
+use Rattle.capi.proofs.Called.{called-by}
+use Rattle.capi.proofs.Mapped.{taken}
+use Rattle.lexeme.specs.declared.LexemeId.{LexemeId}
 use Rattle.capi.proofs.source_reads.stivlaheim_source_read_lexeme_id.Goals as goal
-
-pub returns-in_default : goal.returns-in_default
-returns-in_default c = not-asked _ _ c.ask-a.ensures _ _ _ c.in_default.is c.number.ensures
-
-pub hand_over-requires : goal.hand_over-requires
-hand_over-requires c = six-words _ _ c.ask-a.ensures c.in-State.is
 
 pub returns : goal.returns
 returns c =
-    called-by _ _ c.ask-a.ensures _ _ _ (id_answer c.read_lexeme_id-x.result) c.of_id.result c.in-State.is c.read_lexeme_id-x.ensures c.of_id.ensures (c.hand_over.ensures.answer_after, c.hand_over.ensures.state_after)
+    let x = c.read_lexeme_id-id.result in
+    called-by _ _ c.ask.ensures.state _ _ _ (drawn_as (λ (i : LexemeId). i.0) x) c.of_taken.result c.in-Ok.is c.read_lexeme_id-id.ensures
+    (c.of_taken.ensures _ ∙ sym (taken (λ (i : LexemeId). i.0) number_words (λ i. number_words i.0) (λ i. refl) x _)) (c.hand_over.ensures.answer_after, c.hand_over.ensures.state_after)

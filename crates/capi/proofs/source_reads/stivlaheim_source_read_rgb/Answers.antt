@@ -1,14 +1,14 @@
 -- `capi::source_reads::stivlaheim_source_read_rgb` meets its contract. Assumes nothing.
-use Rattle.source.specs.Answers.{rgb_answer}
-use Rattle.capi.proofs.Called.{not-asked, six-words, called-by}
+use mathlib.Core.Path.{sym, ◌∙◌}
+use Rattle.payload.specs.Answers.{colour_of}
+use Rattle.source.specs.Answers.{drawn_as}
+use Rattle.capi.specs.Words.{colour_words, rgb_words}
+use Rattle.capi.proofs.Called.{called-by}
+use Rattle.capi.proofs.Mapped.{taken, colour_own}
 use Rattle.capi.proofs.source_reads.stivlaheim_source_read_rgb.Goals as goal
-
-pub returns-in_default : goal.returns-in_default
-returns-in_default c = not-asked _ _ c.ask-a.ensures _ _ _ c.in_default.is c.number.ensures
-
-pub hand_over-requires : goal.hand_over-requires
-hand_over-requires c = six-words _ _ c.ask-a.ensures c.in-State.is
 
 pub returns : goal.returns
 returns c =
-    called-by _ _ c.ask-a.ensures _ _ _ (rgb_answer c.read_rgb-x.result) c.of_rgb.result c.in-State.is c.read_rgb-x.ensures c.of_rgb.ensures (c.hand_over.ensures.answer_after, c.hand_over.ensures.state_after)
+    let x = c.read_rgb-colour.result in
+    called-by _ _ c.ask.ensures.state _ _ _ (drawn_as colour_of x) c.of_taken.result c.in-Ok.is c.read_rgb-colour.ensures
+    (c.of_taken.ensures _ ∙ sym (taken colour_of colour_words rgb_words colour_own x _)) (c.hand_over.ensures.answer_after, c.hand_over.ensures.state_after)

@@ -1,20 +1,13 @@
 -- `capi::sources::stivlaheim_source_window` meets its contract. Assumes nothing.
 use mathlib.Core.Path.{ap}
-use Rattle.payload.specs.declared.answers.Text.{Text}
-use Rattle.source.specs.Window.{Drawn}
 use Rattle.source.specs.Answers.{window_len_answer}
 use Rattle.capi.specs.Sources.{as_part, window_part}
-use Rattle.capi.proofs.Called.{not-asked, six-words, called-by}
+use Rattle.capi.proofs.Called.{called-by}
 use Rattle.capi.proofs.sources.stivlaheim_source_window.Goals as goal
-
-pub returns-in_default : goal.returns-in_default
-returns-in_default c = not-asked _ _ c.ask-a.ensures _ _ _ c.in_default.is c.number.ensures
-
-pub hand_over-requires : goal.hand_over-requires
-hand_over-requires c = six-words _ _ c.ask-a.ensures c.in-State.is
 
 pub returns : goal.returns
 unfolding window_part
 returns c =
-    let s = c.in-State.s in
-    called-by _ _ c.ask-a.ensures _ _ _ (λ l. as_part (window_len_answer s c.window_len-x.result l)) c.of_window.result c.in-State.is (ap {B = Drawn Text} as_part c.window_len-x.ensures) c.of_window.ensures (c.hand_over.ensures.answer_after, c.hand_over.ensures.state_after)
+    let s = c.in-Ok.s in
+    called-by _ _ c.ask.ensures.state _ _ _ (λ l. as_part (window_len_answer s c.window_len-x.result l)) c.of_window.result c.in-Ok.is (ap as_part c.window_len-x.ensures) (c.of_window.ensures _)
+    (c.hand_over.ensures.answer_after, c.hand_over.ensures.state_after)

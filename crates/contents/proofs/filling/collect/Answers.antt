@@ -1,49 +1,45 @@
--- `contents::filling::collect` meets its contract. The invariant: what is still to come makes the list whole. Assumes nothing.
-use native.Mathlib.Omega.{arith}
-use Rattle.contents.proofs.Numbering.{at_first, to-key, to_end, to-refused}
+-- `contents::filling::collect` meets its contract. Assumes nothing.
+use Rattle.std.proofs.Common.{arith}
+use Rattle.std.proofs.lemmas.Result.{err_from_is_err_and}
+use Rattle.laws.proofs.InOrder.{contents-length}
+use Rattle.contents.proofs.Collected.{at-first, fewer, end-inside, next, at-last, first-refused, next-refused}
 use Rattle.contents.proofs.filling.collect.Goals as goal
 
-pub loop-p-init : goal.loop-p-init
-loop-p-init c = at_first _ _
+pub returns-in_err-key : goal.returns-in_err-key
+returns-in_err-key g c =
+    let p = err_from_is_err_and c.from_residual.result c.from_residual.ensures.1 in
+    rw (p.1, p.2) (first-refused g.T.Slot.put g.T.Slot.entries c.args.bytes.now c.args.list.now c.in_err-key.field-0.0 c.in_err-key.ensures)
 
-pub overflow_cast-p : goal.overflow_cast-p
-overflow_cast-p c =
-    let k = to-key _ _ _ _ _ c.loop-p.invariant c.next_key-next.ensures c.in-Key.is in
-    omega (arith, k.on, k.there)
+pub loop-key-init : goal.loop-key-init
+loop-key-init g c = at-first g.T.Slot.put g.T.Slot.entries c.args.bytes.now c.args.list.now c.in_ok-key.key c.in_ok-key.ensures
 
-pub put_start-requires : goal.put_start-requires
-put_start-requires c =
-    let l = c.loop-p.invariant in
-    omega (arith, l.fewer, l.inside)
+pub returns-in_err-key-2 : goal.returns-in_err-key-2
+returns-in_err-key-2 g c =
+    let l = c.loop-key in
+    let i = rw c.in-Some.is at l.invariant in
+    let p = err_from_is_err_and c.from_residual-in_err-key-2.result c.from_residual-in_err-key-2.ensures.1 in
+    rw (p.1, p.2)
+    (next-refused g.T.Slot.put g.T.Slot.entries c.args.bytes.now c.args.list.now c.in-Some.k l.n l.list i c.in_err-key-2.field-0.0 c.in_err-key-2.ensures)
+
+pub entry-requires-clause-end : goal.entry-requires-clause-end
+entry-requires-clause-end g c = omega (arith, end-inside c.args.bytes.now c.in-Some.k.end c.in_ok-key-2.key c.in_ok-key-2.ensures)
 
 pub overflow_add-n : goal.overflow_add-n
-overflow_add-n c =
-    let l = c.loop-p.invariant in
-    omega (arith, l.fewer, l.inside)
+overflow_add-n g c =
+    let l = c.loop-key in
+    let s = c.args.bytes.now in
+    let i = rw c.in-Some.is at l.invariant in
+    omega (arith, contents-length s, fewer g.T.Slot.put g.T.Slot.entries s c.args.list.now c.in-Some.k l.n l.list i)
 
-pub loop-p-smaller : goal.loop-p-smaller
-loop-p-smaller c =
-    let k =
-    to-key _ _ _ _ _ c.loop-p.invariant c.next_key-next.ensures
-    c.in-Key.is in
-    omega (arith, k.after, k.on, k.there)
+pub loop-key-preserved : goal.loop-key-preserved
+loop-key-preserved g c =
+    let l = c.loop-key in
+    let i = rw c.in-Some.is at l.invariant in
+    next g.T.Slot.put g.T.Slot.entries c.args.bytes.now c.args.list.now c.in-Some.k l.n l.list i c.in_ok-key-2.key c.in_ok-key-2.ensures c.put.new.list
+    (λ h. rw c.entry.ensures at (c.put.ensures.list h)) c.put.ensures.count
 
-pub loop-p-preserved : goal.loop-p-preserved
-loop-p-preserved c =
-    (to-key _ _ _ _ _ c.loop-p.invariant c.next_key-next.ensures
-    c.in-Key.is).coming c.put_start.ensures
-
-pub put_end-requires : goal.put_end-requires
-put_end-requires c =
-    let l = c.loop-p.invariant in
-    omega (arith, l.fewer, l.inside)
-
-pub returns-in-End : goal.returns-in-End
-returns-in-End c =
-    to_end _ _ _ _ _ c.loop-p.invariant c.next_key-next.ensures
-    c.in-End.is c.put_end.ensures
-
-pub returns-in-Refused : goal.returns-in-Refused
-returns-in-Refused c =
-    to-refused _ _ _ _ _ c.loop-p.invariant c.next_key-next.ensures c.in-Refused.is
-    c.refused.ensures
+pub returns : goal.returns
+returns g c =
+    let l = c.loop-key in
+    let i = rw c.in_default.is at l.invariant in
+    at-last g.T.Slot.put g.T.Slot.entries c.args.bytes.now c.args.list.now l.n l.list i

@@ -1,10 +1,11 @@
-use Prim.Native.Nat.{◌-◌}
-use lib.ListN.{length}
-use Rattle.contents.proofs.Numbering.{Coming}
+-- With the entries that are still to come the list is whole.
+use Rattle.std.proofs.Common.{◌-◌, length}
+use Rattle.form.specs.Contents.{contents}
+use Rattle.contents.proofs.Collected.{Coming}
 use Rattle.contents.proofs.filling.collect.Given as goal
 
-abbrev pub invariant-loop-p : goal.invariant-loop-p
-invariant-loop-p l = Coming l.bytes l.at l.n l.initial.list l.list
+abbrev pub invariant-loop-key : goal.invariant-loop-key
+invariant-loop-key g l = Coming g.T.Slot.put g.T.Slot.entries l.bytes l.initial.list l.key l.n l.list
 
-abbrev pub decreases-loop-p : goal.decreases-loop-p
-decreases-loop-p l = length l.bytes - l.at
+abbrev pub decreases-loop-key : goal.decreases-loop-key
+decreases-loop-key g l = length (contents l.bytes) - l.n

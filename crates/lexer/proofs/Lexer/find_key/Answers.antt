@@ -2,17 +2,14 @@
 use mathlib.Core.Path.{sym, ◌∙◌}
 use Rattle.form.specs.Finding.{finds}
 use Rattle.laws.proofs.Cursors.{within_in}
-use Rattle.lexer.specs.Calls.{place_call}
-use Rattle.lexer.proofs.Endings.{told, told-inside, told-outside}
+use Rattle.payload.proofs.Handed.{handed}
+use Rattle.lexer.proofs.Endings.{told-inside, told-outside}
 use Rattle.lexer.proofs.Lexer.find_key.Goals as goal
 
-pub walk-requires : goal.walk-requires
-walk-requires c = told (place_call _) c.place-p.ensures c.in-Inside.is
-
-pub returns-in-Inside : goal.returns-in-Inside
+pub returns-in_err-place : goal.returns-in_err-place
 unfolding finds
-returns-in-Inside c = c.walk.ensures ∙ sym (within_in _ _ (told-inside _ _ c.place-p.ensures c.in-Inside.is))
+returns-in_err-place c = rw (handed _ c.from_residual.ensures) (told-outside _ _ c.place.ensures c.in_err-place.was _)
 
-pub returns-in-Outside : goal.returns-in-Outside
+pub returns : goal.returns
 unfolding finds
-returns-in-Outside c = told-outside _ _ c.place-p.ensures c.in-Outside.is _
+returns c = c.walk.ensures ∙ sym (within_in _ _ (told-inside _ _ c.place.ensures c.in_ok-place.was))

@@ -3,12 +3,12 @@ use Rattle.form.specs.Calls.{landed}
 use Rattle.lexer.proofs.Endings.{stopped-lands, land-cut}
 use Rattle.lexer.proofs.Lexer.land.Goals as goal
 
-pub located-requires : goal.located-requires
-located-requires c = stopped-lands c.args.self c.requires c.in-Refused.is c.moved-there.ensures
+pub located-refusal-requires : goal.located-refusal-requires
+located-refusal-requires c = stopped-lands c.args.self c.requires c.in-Err.is c.moved-next.ensures
 
-pub returns-in-To : goal.returns-in-To
+pub returns-in-Ok : goal.returns-in-Ok
 unfolding landed
-returns-in-To c = rw (c.in-To.is, c.moved.ensures)
+returns-in-Ok c = rw (c.in-Ok.is, c.moved.ensures)
 
-pub returns-in-Refused : goal.returns-in-Refused
-returns-in-Refused c = rw c.in-Refused.is (land-cut _ _ c.located.ensures c.moved-there.ensures)
+pub returns-in-Err : goal.returns-in-Err
+returns-in-Err c = rw c.in-Err.is (land-cut _ _ c.located-refusal.ensures c.moved-next.ensures)

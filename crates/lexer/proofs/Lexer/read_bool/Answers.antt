@@ -1,20 +1,7 @@
 -- `lexer::Lexer::read_bool` meets its contract. Assumes nothing.
 use native.Mathlib.Omega.{arith}
-use mathlib.Core.Path.{refl}
-use Rattle.form.specs.Readers.{at}
-use Rattle.form.specs.Reading.{num}
-use Rattle.laws.proofs.Inside.{inside-mapped, num-inside}
-use Rattle.payload.specs.Answers.{bool_answer}
-use Rattle.payload.proofs.LetElse.{got_of, lack_of}
-use Rattle.lexer.proofs.Endings.{bad-offset, got, cut}
-use Rattle.std.proofs.Common.{ap, not}
+use Rattle.lexer.proofs.Endings.{mapped-ended}
 use Rattle.lexer.proofs.Lexer.read_bool.Goals as goal
 
-pub returns-then-not-fits : goal.returns-then-not-fits
-returns-then-not-fits c = bad-offset _ _ _ c.fits.ensures (ap not c.if-not-fits.true)
-
-pub returns-in_default : goal.returns-in_default
-returns-in_default c = cut _ _ _ (lack_of bool_answer c.read_bool-r.ensures c.in_default.is c.missing.ensures refl) c.refused.ensures
-
 pub returns : goal.returns
-returns c = got _ _ _ (inside-mapped (at (num 1)) _ (num-inside 1 (omega arith))) c.fits.ensures (ap not c.if-not-fits.false) (got_of bool_answer c.read_bool-r.ensures c.in-Got.is) c.moved.ensures
+returns c = mapped-ended _ 1 (omega arith) _ _ c.read_bool.ensures c.ended.ensures

@@ -1,26 +1,15 @@
 -- `lexer::Lexer::read_bytes` meets its contract. Assumes nothing.
-use mathlib.Core.Path.{refl}
 use Rattle.form.specs.Calls.{reads}
-use Rattle.payload.specs.Answers.{text_answer}
-use Rattle.payload.proofs.LetElse.{got_of, lack_of}
+use Rattle.payload.proofs.Handed.{handed}
 use Rattle.lexer.specs.Calls.{bytes_at}
-use Rattle.lexer.proofs.Endings.{told-inside, told-outside, stands, inside-got, inside-cut}
+use Rattle.lexer.proofs.Endings.{told-inside, told-outside, placed-ended}
 use Rattle.lexer.proofs.Lexer.read_bytes.Goals as goal
 
-pub located-requires : goal.located-requires
-located-requires c =
-    stands _ _ (told-inside _ _ c.place-p.ensures c.in-Inside.is)
-
-pub returns-in_default : goal.returns-in_default
-returns-in_default c =
-    let h = told-inside _ _ c.place-p.ensures c.in-Inside.is in
-    inside-cut (bytes_at _) _ _ h (lack_of text_answer c.read_bytes-r.ensures c.in_default.is c.missing.ensures refl) c.located.ensures
-
-pub returns-in-Got : goal.returns-in-Got
-returns-in-Got c =
-    let h = told-inside _ _ c.place-p.ensures c.in-Inside.is in
-    inside-got (bytes_at _) _ _ h (got_of text_answer c.read_bytes-r.ensures c.in-Got.is) c.moved.ensures
-
-pub returns-in-Outside : goal.returns-in-Outside
+pub returns-in_err-place : goal.returns-in_err-place
 unfolding reads
-returns-in-Outside c = told-outside _ _ c.place-p.ensures c.in-Outside.is _
+returns-in_err-place c = rw (handed _ c.from_residual.ensures) (told-outside _ _ c.place.ensures c.in_err-place.was _)
+
+pub returns : goal.returns
+returns c =
+    let h = told-inside _ _ c.place.ensures c.in_ok-place.was in
+    placed-ended (λ t. t) (bytes_at c.args.count) _ _ h c.read_bytes.ensures c.ended.ensures

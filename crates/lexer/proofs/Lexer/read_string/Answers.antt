@@ -1,19 +1,9 @@
 -- `lexer::Lexer::read_string` meets its contract. Assumes nothing.
-use mathlib.Core.Path.{refl}
 use Rattle.form.specs.Readers.{at}
 use Rattle.form.specs.Reading.{string}
 use Rattle.laws.proofs.Inside.{inside-placed, string-inside}
-use Rattle.payload.specs.Answers.{text_answer}
-use Rattle.payload.proofs.LetElse.{got_of, lack_of}
-use Rattle.lexer.proofs.Endings.{bad-offset, got, cut}
-use Rattle.std.proofs.Common.{ap, not}
+use Rattle.lexer.proofs.Endings.{read-ended}
 use Rattle.lexer.proofs.Lexer.read_string.Goals as goal
 
-pub returns-then-not-fits : goal.returns-then-not-fits
-returns-then-not-fits c = bad-offset _ _ _ c.fits.ensures (ap not c.if-not-fits.true)
-
-pub returns-in_default : goal.returns-in_default
-returns-in_default c = cut _ _ _ (lack_of text_answer c.read_string-r.ensures c.in_default.is c.missing.ensures refl) c.refused.ensures
-
 pub returns : goal.returns
-returns c = got _ _ _ (inside-placed (at string) _ string-inside) c.fits.ensures (ap not c.if-not-fits.false) (got_of text_answer c.read_string-r.ensures c.in-Got.is) c.moved.ensures
+returns c = read-ended (λ x. x) _ _ _ (inside-placed (at string) _ string-inside) c.read_string.ensures c.ended.ensures

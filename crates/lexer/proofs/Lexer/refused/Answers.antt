@@ -7,17 +7,17 @@ use Rattle.lexer.proofs.Endings.{told-inside, told-outside, stands}
 use Rattle.lexer.proofs.Lexer.refused.Goals as goal
 
 pub located-requires : goal.located-requires
-located-requires c = stands _ _ (told-inside _ _ c.place-p.ensures c.in-Inside.is)
+located-requires c = stands _ _ (told-inside _ _ c.place.ensures c.in-Ok.is)
 
-pub returns-in-Inside : goal.returns-in-Inside
+pub returns-in-Ok : goal.returns-in-Ok
 unfolding reads ended
-returns-in-Inside c =
+returns-in-Ok c =
     let a = c.args in
-    let h = told-inside a.self _ c.place-p.ensures c.in-Inside.is in
+    let h = told-inside a.self _ c.place.ensures c.in-Ok.is in
     ap (λ r. refuses r (cursor_of a.self)) c.located.ensures ∙ sym (within_in _ _ h)
 
-pub returns-in-Outside : goal.returns-in-Outside
+pub returns-in-Err : goal.returns-in-Err
 unfolding reads
-returns-in-Outside c =
+returns-in-Err c =
     let a = c.args in
-    told-outside a.self _ c.place-p.ensures c.in-Outside.is _
+    told-outside a.self _ c.place.ensures c.in-Err.is _

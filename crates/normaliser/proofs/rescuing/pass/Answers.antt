@@ -20,15 +20,6 @@ overflow_add-strays c =
     let n = counted c.loop-ending.invariant t.on (omega (arith, t.there)) c.requires.0 in
     omega (arith, n.1, n.2)
 
-pub overflow_add-at : goal.overflow_add-at
-overflow_add-at c =
-    let t = stray-ahead c.loop-ending.invariant c.in-Stray.is in
-    omega (arith, t.there)
-
-pub stretch-ending-requires : goal.stretch-ending-requires
-stretch-ending-requires c =
-    (stray-ahead c.loop-ending.invariant c.in-Stray.is).there
-
 pub loop-ending-smaller : goal.loop-ending-smaller
 loop-ending-smaller c =
     let t = stray-ahead c.loop-ending.invariant c.in-Stray.is in
@@ -50,10 +41,6 @@ put_closes-need-requires c =
     let t = end-ahead c.loop-ending.invariant c.in-End.is in
     let n = counted c.loop-ending.invariant t.on t.there c.requires.0 in
     omega (arith, n.0, n.2, t.on, t.shallow, c.copy_run-need-in-End.ensures.count, between-length a.bytes.now c.loop-ending.at _ t.there)
-
-pub overflow_sub-cut : goal.overflow_sub-cut
-overflow_sub-cut c =
-    (end-ahead c.loop-ending.invariant c.in-End.is).there
 
 pub returns-in-End : goal.returns-in-End
 returns-in-End c =

@@ -13,4 +13,4 @@ returns-then-out-need c =
 pub returns : goal.returns
 returns c =
     let a = c.args in
-    rescue-fits a.bytes.now a.out.now c.if-len-gt-LIMIT.false c.needed-need.ensures c.if-out-need.false c.pass-written.ensures
+    rescue-fits a.bytes.now a.out.now c.if-len-gt-LIMIT.false c.needed-need.ensures c.if-out-need.false c.pass.ensures

@@ -1,17 +1,14 @@
 -- `normaliser::shortening::append` meets its contract. Assumes nothing.
 use native.Mathlib.Omega.{arith}
-use Rattle.normaliser.proofs.Respelling.{short-written, short-counted, short-otherwise}
-use borrow.Enum.Refused.{opened}
+use mathlib.Core.Path.{sym, ◌∙◌}
+use Rattle.normaliser.proofs.Respelling.{short-count, short-appends}
 use Rattle.normaliser.proofs.shortening.append.Goals as goal
 
-pub returns-in-Written : goal.returns-in-Written
-returns-in-Written c =
-    short-written c.write_shortest.result c.args.out.now c.requires (omega arith) c.place-to.ensures c.write_shortest.ensures c.in-Written.is
+pub unwrap-requires : goal.unwrap-requires
+unwrap-requires c =
+    let n = short-count c.write_shortest.result c.args.out.now c.requires (omega arith) c.place-to.ensures c.write_shortest.ensures in
+    rw (c.counted.ensures, n)
 
-pub returns-in-NoRoom : goal.returns-in-NoRoom
-returns-in-NoRoom c =
-    short-counted c.write_shortest.result c.args.out.now c.requires (omega arith) c.place-to.ensures c.write_shortest.ensures c.in-NoRoom.is
-
-pub returns-in-WideLookup : goal.returns-in-WideLookup
-returns-in-WideLookup c =
-    absurd (short-otherwise c.write_shortest.result c.args.out.now c.requires (omega arith) c.place-to.ensures c.write_shortest.ensures (opened c.in-WideLookup.in-WideLookup-own.keys3))
+pub returns : goal.returns
+returns c =
+    short-appends c.write_shortest.result c.args.out.now c.requires (omega arith) c.place-to.ensures c.write_shortest.ensures (sym c.counted.ensures ∙ c.unwrap.ensures)

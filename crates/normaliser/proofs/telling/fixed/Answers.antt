@@ -1,10 +1,13 @@
 -- `normaliser::telling::fixed` meets its contract. Assumes nothing.
-use Rattle.payload.specs.Answers.{text_of, text_answer}
-use Rattle.payload.proofs.LetElse.{got_of, placed-found, placed-refused}
+use Rattle.payload.specs.Answers.{read_as, text_of}
+use Rattle.normaliser.proofs.Taken.{ok_of, err_of}
+use Rattle.payload.proofs.Handed.{placed-found, placed-refused}
 use Rattle.normaliser.proofs.telling.fixed.Goals as goal
 
-pub returns-in_default : goal.returns-in_default
-returns-in_default c = record { is = (_, placed-refused text_of _ (got_of text_answer c.read_bytes-part.ensures c.in_default.is)) }
+pub returns-in_err-next : goal.returns-in_err-next
+returns-in_err-next c =
+    let e = err_of (read_as (λ x. x)) c.read_bytes.result c.in_err-next.ensures.value c.read_bytes.ensures in
+    rw c.from_residual.ensures (record { is = (_, placed-refused text_of _ e.1) })
 
 pub returns : goal.returns
-returns c = record { is = placed-found text_of _ (got_of text_answer c.read_bytes-part.ensures c.in-Got.is) }
+returns c = record { is = placed-found text_of _ (ok_of (read_as (λ x. x)) c.read_bytes.result c.in_ok-next.ensures.value c.read_bytes.ensures) }

@@ -1,5 +1,4 @@
 -- `normaliser::telling::span` meets its contract. Assumes nothing.
-use native.Mathlib.Omega.{arith}
 use mathlib.Core.Path.{refl, sym}
 use mathlib.Core.List.{List, [], ◌∷◌}
 use Prim.Native.Nat.{ℕ}
@@ -42,17 +41,8 @@ pub returns-then-n-lt-FIXED5_ZERO : goal.returns-then-n-lt-FIXED5_ZERO
 unfolding after or_plain find entries table
 returns-then-n-lt-FIXED5_ZERO c = elsewhere-none (leb 0x0d47) arms refl _ c.in_default.in_default-own.rest (lt-leb 0x0d47 _ c.if-n-lt-FIXED5_ZERO.true)
 
-pub overflow_cast-result : goal.overflow_cast-result
-overflow_cast-result c = omega (arith, c.if-n-le-FIXED5_U56.true)
-
 pub returns-then-n-le-FIXED5_U56 : goal.returns-then-n-le-FIXED5_U56
 returns-then-n-le-FIXED5_U56 c = compact-span _ c.if-n-lt-FIXED5_ZERO.false c.if-n-le-FIXED5_U56.true
-
-pub overflow_sub-result-then-n-le-FIXED5_I56 : goal.overflow_sub-result-then-n-le-FIXED5_I56
-overflow_sub-result-then-n-le-FIXED5_I56 c = omega (arith, c.if-n-le-FIXED5_U56.false)
-
-pub overflow_cast-result-then-n-le-FIXED5_I56 : goal.overflow_cast-result-then-n-le-FIXED5_I56
-overflow_cast-result-then-n-le-FIXED5_I56 c = omega (arith, c.if-n-le-FIXED5_I56.true)
 
 pub returns-then-n-le-FIXED5_I56 : goal.returns-then-n-le-FIXED5_I56
 returns-then-n-le-FIXED5_I56 c = negated-span _ c.if-n-le-FIXED5_U56.false c.if-n-le-FIXED5_I56.true

@@ -1,42 +1,34 @@
 -- `payload::colour::read_channels` meets its contract. Assumes nothing.
-use mathlib.Core.Path.{refl, sym}
+use mathlib.Core.Path.{sym}
 use Rattle.form.specs.Readers.{and_then}
 use Rattle.laws.proofs.Places.{channels-then}
-use Rattle.payload.specs.Answers.{id_answer}
-use Rattle.payload.specs.Colour.{channel_answer}
-use Rattle.payload.proofs.LetElse.{got_of, lack_of}
+use Rattle.payload.proofs.Handed.{handed}
 use Rattle.payload.proofs.colour.read_channels.Goals as goal
 
-pub returns-in_default : goal.returns-in_default
+pub returns-in_err-open : goal.returns-in_err-open
 unfolding and_then
-returns-in_default c = rw (channels-then, lack_of id_answer c.read_id-first.ensures c.in_default.is c.missing.ensures refl)
+returns-in_err-open c = rw (channels-then, handed _ c.from_residual.ensures, sym c.in_err-open.ensures)
 
-pub returns-in_default-red : goal.returns-in_default-red
+pub returns-in_err-r : goal.returns-in_err-r
 unfolding and_then
-returns-in_default-red c =
-    rw (channels-then, got_of id_answer c.read_id-first.ensures c.in-Got.is, lack_of channel_answer c.read_channel-red.ensures c.in_default-red.is c.missing-in_default-red.ensures refl)
+returns-in_err-r c = rw (channels-then, sym c.in_ok-open.ensures, handed _ c.from_residual-in_err-r.ensures, sym c.in_err-r.ensures)
 
-pub returns-in_default-green : goal.returns-in_default-green
+pub returns-in_err-g : goal.returns-in_err-g
 unfolding and_then
-returns-in_default-green c =
-    rw (channels-then, got_of id_answer c.read_id-first.ensures c.in-Got.is, got_of channel_answer c.read_channel-red.ensures c.in-Got-red.is, lack_of channel_answer c.read_channel-green.ensures c.in_default-green.is c.missing-in_default-green.ensures refl)
+returns-in_err-g c = rw (channels-then, sym c.in_ok-open.ensures, sym c.in_ok-r.ensures, handed _ c.from_residual-in_err-g.ensures, sym c.in_err-g.ensures)
 
-pub returns-in_default-blue : goal.returns-in_default-blue
+pub returns-in_err-b : goal.returns-in_err-b
 unfolding and_then
-returns-in_default-blue c =
-    rw (channels-then, got_of id_answer c.read_id-first.ensures c.in-Got.is, got_of channel_answer c.read_channel-red.ensures c.in-Got-red.is, got_of channel_answer c.read_channel-green.ensures c.in-Got-green.is, lack_of channel_answer c.read_channel-blue.ensures c.in_default-blue.is c.missing-in_default-blue.ensures refl)
+returns-in_err-b c = rw (channels-then, sym c.in_ok-open.ensures, sym c.in_ok-r.ensures, sym c.in_ok-g.ensures, handed _ c.from_residual-in_err-b.ensures, sym c.in_err-b.ensures)
 
-pub returns-in_default-last : goal.returns-in_default-last
+pub returns-in_err-end : goal.returns-in_err-end
 unfolding and_then
-returns-in_default-last c =
-    rw (channels-then, got_of id_answer c.read_id-first.ensures c.in-Got.is, got_of channel_answer c.read_channel-red.ensures c.in-Got-red.is, got_of channel_answer c.read_channel-green.ensures c.in-Got-green.is, got_of channel_answer c.read_channel-blue.ensures c.in-Got-blue.is, lack_of id_answer c.read_id-last.ensures c.in_default-last.is c.missing-in_default-last.ensures refl)
+returns-in_err-end c = rw (channels-then, sym c.in_ok-open.ensures, sym c.in_ok-r.ensures, sym c.in_ok-g.ensures, sym c.in_ok-b.ensures, handed _ c.from_residual-in_err-end.ensures, sym c.in_err-end.ensures)
 
 pub returns-then-begins : goal.returns-then-begins
 unfolding and_then
-returns-then-begins c =
-    rw (channels-then, got_of id_answer c.read_id-first.ensures c.in-Got.is, got_of channel_answer c.read_channel-red.ensures c.in-Got-red.is, got_of channel_answer c.read_channel-green.ensures c.in-Got-green.is, got_of channel_answer c.read_channel-blue.ensures c.in-Got-blue.is, got_of id_answer c.read_id-last.ensures c.in-Got-last.is, sym c.begins.ensures, c.if-begins.true) c.closing.ensures
+returns-then-begins c = rw (channels-then, sym c.in_ok-open.ensures, sym c.in_ok-r.ensures, sym c.in_ok-g.ensures, sym c.in_ok-b.ensures, sym c.in_ok-end.ensures, sym c.begins.ensures, c.if-begins.true) c.closing.ensures
 
 pub returns-else-begins : goal.returns-else-begins
 unfolding and_then
-returns-else-begins c =
-    rw (channels-then, got_of id_answer c.read_id-first.ensures c.in-Got.is, got_of channel_answer c.read_channel-red.ensures c.in-Got-red.is, got_of channel_answer c.read_channel-green.ensures c.in-Got-green.is, got_of channel_answer c.read_channel-blue.ensures c.in-Got-blue.is, got_of id_answer c.read_id-last.ensures c.in-Got-last.is, sym c.begins.ensures, c.if-begins.false)
+returns-else-begins c = rw (channels-then, sym c.in_ok-open.ensures, sym c.in_ok-r.ensures, sym c.in_ok-g.ensures, sym c.in_ok-b.ensures, sym c.in_ok-end.ensures, sym c.begins.ensures, c.if-begins.false)

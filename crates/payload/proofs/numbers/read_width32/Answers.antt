@@ -1,19 +1,11 @@
 -- `payload::numbers::read_width32` meets its contract. Assumes nothing.
-use mathlib.Core.Path.{refl, sym}
+use mathlib.Core.Path.{sym}
 use native.Mathlib.Omega.{arith}
 use Rattle.laws.proofs.LittleEndian.{within}
 use Rattle.laws.proofs.Places.{num-lt}
-use Rattle.payload.specs.Answers.{u64_answer}
-use Rattle.payload.proofs.LetElse.{got_of, lack_of}
 use Rattle.payload.proofs.numbers.read_width32.Goals as goal
 
-pub returns-in_default : goal.returns-in_default
-returns-in_default c = sym (lack_of u64_answer c.read_width-r.ensures c.in_default.is c.missing.ensures refl)
-
-pub overflow_cast-value : goal.overflow_cast-value
-overflow_cast-value c =
+pub overflow_cast-result : goal.overflow_cast-result
+overflow_cast-result c =
     let a = c.args in
-    omega (arith, within c.requires, num-lt a.width a.bytes.now a.at c.shared_slice_known-1.given (got_of u64_answer c.read_width-r.ensures c.in-Got.is))
-
-pub returns : goal.returns
-returns c = sym (got_of u64_answer c.read_width-r.ensures c.in-Got.is)
+    omega (arith, within c.requires, num-lt a.width a.bytes.now a.at c.type_inv.bytes (sym c.in_ok-x.ensures))

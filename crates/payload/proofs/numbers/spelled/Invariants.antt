@@ -1,10 +1,7 @@
-use Prim.Native.Nat.{◌+◌, ◌-◌, ◌^◌, ◌≤◌, ◌<◌}
+use Prim.Native.Nat.{◌+◌, ◌-◌, ◌^◌, ◌<◌}
 use mathlib.Core.Path.{◌≡◌}
 use Rattle.payload.proofs.HighestFirst.{upper}
 use Rattle.payload.proofs.numbers.spelled.Given as goal
 
 abbrev pub invariant-loop-i : goal.invariant-loop-i
-invariant-loop-i l = (l.i ≤ l.width) × ((l.x ≡ upper l.bytes (l.at + l.i) (l.at + l.width)) × (l.x < 256 ^ (l.width - l.i)))
-
-abbrev pub decreases-loop-i : goal.decreases-loop-i
-decreases-loop-i l = l.i
+invariant-loop-i l = (l.x ≡ upper l.bytes (l.at + l.i) (l.at + l.width)) × (l.x < 256 ^ (l.width - l.i))

@@ -1,24 +1,21 @@
 -- `skip::walk::over` meets its contract. Assumes nothing.
 use native.Mathlib.Omega.{arith}
-use mathlib.Core.Path.{refl, sym, ◌∙◌}
+use mathlib.Core.Path.{sym, ◌∙◌}
 use Rattle.laws.proofs.SkipSteps.{passing-on}
-use Rattle.payload.specs.Answers.{text_answer}
-use Rattle.payload.proofs.LetElse.{got_of, lack_of}
-use Rattle.skip.proofs.Passing.{got, got-not}
+use Rattle.payload.proofs.Handed.{handed}
 use Rattle.skip.proofs.Turns.{cut_short, deeper, out, higher, onward, over-at}
 use Rattle.skip.proofs.walk.over.Goals as goal
 
 pub returns-then-depth-lt2 : goal.returns-then-depth-lt2
 returns-then-depth-lt2 c = record { answer = sym (out _ _ _ _ c.in-4.is c.if-depth-lt2.true); moves = tt }
 
-pub returns-in_default-passed : goal.returns-in_default-passed
-returns-in_default-passed c =
-    let f = got-not c.skip_payload-passed.ensures (lack_of text_answer refl c.in_default-passed.is c.missing.ensures refl) in
-    record { answer = sym (cut_short _ _ _ _ f); moves = tt }
+pub returns-in_err-end-in_default : goal.returns-in_err-end-in_default
+returns-in_err-end-in_default c =
+    rw (handed _ c.from_residual.ensures) (record { answer = sym (cut_short _ _ _ _ (sym c.in_err-end-in_default.ensures)); moves = tt })
 
 pub returns-then-depth-eq0 : goal.returns-then-depth-eq0
 returns-then-depth-eq0 c =
-    let f = got c.skip_payload-passed.ensures (got_of text_answer refl c.in-Got.is) in
+    let f = sym c.in_ok-end-in_default.ensures in
     let m = c.in_default.in_default-own.rest in
     record { answer = sym (onward _ _ _ _ m.0.1 m.1 f ∙ over-at _ _ _ c.if-depth-eq0.true); moves = tt }
 
@@ -30,7 +27,7 @@ returns-else-depth-lt2 c = record { answer = sym (higher _ _ _ _ c.in-4.is (omeg
 
 pub returns-else-depth-eq0 : goal.returns-else-depth-eq0
 returns-else-depth-eq0 c =
-    let f = got c.skip_payload-passed.ensures (got_of text_answer refl c.in-Got.is) in
+    let f = sym c.in_ok-end-in_default.ensures in
     let m = c.in_default.in_default-own.rest in
     let l = passing-on _ _ _ f in
     record { answer = sym (onward _ _ _ _ m.0.1 m.1 f); moves = (l, omega arith, omega arith) }

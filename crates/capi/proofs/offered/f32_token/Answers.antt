@@ -1,9 +1,0 @@
--- `capi::offered::f32_token` meets its contract. Assumes nothing.
-use borrow.Author.Tests.{le-leb, lt-leb}
-use Rattle.capi.proofs.offered.f32_token.Goals as goal
-
-pub returns-then-x-gt4294967295 : goal.returns-then-x-gt4294967295
-returns-then-x-gt4294967295 c = rw (lt-leb _ _ c.if-x-gt4294967295.true)
-
-pub returns : goal.returns
-returns c = rw (le-leb _ _ c.if-x-gt4294967295.false)

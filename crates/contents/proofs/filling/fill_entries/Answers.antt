@@ -1,0 +1,10 @@
+-- `contents::filling::fill_entries` meets its contract. Assumes nothing.
+use Rattle.form.specs.Contents.{fill}
+use Rattle.contents.proofs.Admitted.{as-records}
+use Rattle.laws.proofs.InOrder.{filled_is}
+use Rattle.contents.proofs.filling.fill_entries.Goals as goal
+
+pub returns : goal.returns
+returns c =
+    let s = c.args.bytes.now in
+    as-records (λ room. fill room s) (λ room l e. (filled_is s room e).1) c.args.list.now c.fill_list.ensures

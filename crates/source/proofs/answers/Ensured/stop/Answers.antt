@@ -1,8 +1,0 @@
--- `source::answers::Ensured::stop` meets its contract. Assumes nothing.
-use Rattle.source.proofs.answers.Ensured.stop.Goals as goal
-
-pub returns-in-Ready : goal.returns-in-Ready
-returns-in-Ready c = rw c.in-Ready.is
-
-pub returns-in-Refused : goal.returns-in-Refused
-returns-in-Refused c = rw c.in-Refused.is
