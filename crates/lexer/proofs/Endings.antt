@@ -6,7 +6,7 @@ use mathlib.Core.Path.{◌≡◌, refl, sym, ap, ◌∙◌}
 use mathlib.Core.Bool.{Bool, true, false, ◌&&◌}
 use mathlib.Core.Option.{Option, none, some}
 use mathlib.Core.List.{List}
-use Rattle.std.specs.Prelude.{Result, Ok, Err}
+use Rattle.std.specs.Prelude.{Result, Ok, Err, Option as MayBe}
 use lib.ListN.{length}
 use lib.Dec.{eqb}
 use borrow.Author.Tests.{eqb-true, ne_eqb}
@@ -209,7 +209,7 @@ module _ {V A : Type 0} (value : V → A) (f : ByPlace A) (s : List ℕ) (c : Le
       by-fit h (λ t e. let l : c.at < length s = i s c.at (value x.0) x.1 (sym q) in ended-found (sym q) r (record { fitting = fits-true s (cursor_of c) t; there = omega arith }) e)
   lexed-ended i (Err w) q r h = by-fit h (λ t e. let k = ap fault_of e.1 in ended-refused (sym q) r (rw k at e.2))
 
-  pub nexted : Begins f → (q : Result (V × Lexer) Refusal) → read_call value c q ≡ reads f s (cursor_of c)
+  nexted : Begins f → (q : Result (V × Lexer) Refusal) → read_call value c q ≡ reads f s (cursor_of c)
       → next_call value c (next_of (fits s (cursor_of c) && eqb c.at (length s)) q) ≡ nexts f s (cursor_of c)
   nexted i (Ok x) e = next-got f s (cursor_of c) i e
   nexted i (Err w) e = go (fits s (cursor_of c) && eqb c.at (length s)) refl
@@ -218,11 +218,25 @@ module _ {V A : Type 0} (value : V → A) (f : ByPlace A) (s : List ℕ) (c : Le
       go true t = next-end f s (cursor_of c) t
       go false t = next-cut f s (cursor_of c) t e
 
-  pub peeked : (q : Result (V × Lexer) Refusal) → read_call value c q ≡ reads f s (cursor_of c) → staying_call (option_as value) c (peek_of q) ≡ peeks f s (cursor_of c)
+  peeked : (q : Result (V × Lexer) Refusal) → read_call value c q ≡ reads f s (cursor_of c) → staying_call (option_as value) c (peek_of q) ≡ peeks f s (cursor_of c)
   unfolding refusal_of
   peeked (Ok x) e = peek-got f s (cursor_of c) e
   peeked (Err (Lexed l)) e = peek-none f s (cursor_of c) l.position (fault_of l.kind) e
   peeked (Err (BadPlace p)) e = peek-bad f s (cursor_of c) e
+
+  -- by what the code calls
+  pub nexted-by : Begins f → (q : Result (V × Lexer) Refusal) → read_call value c q ≡ reads f s (cursor_of c) → {n : Result (MayBe (V × Lexer)) Refusal}
+      → n ≡ next_of (fits s (cursor_of c) && eqb c.at (length s)) q → next_call value c n ≡ nexts f s (cursor_of c)
+  nexted-by i q h e = rw e (nexted i q h)
+
+  pub peeked-by : (q : Result (V × Lexer) Refusal) → read_call value c q ≡ reads f s (cursor_of c) → {p : Result (MayBe V) Refusal}
+      → p ≡ peek_of q → staying_call (option_as value) c p ≡ peeks f s (cursor_of c)
+  peeked-by q h e = rw e (peeked q h)
+
+-- what is read is what is handed on
+pub handed-on : {V E : Type 0} {kind : E → LexError → Type 0} {s : List ℕ} {c : Lexer} {read read' : Result (V × ℕ) E} {r : Result (V × Lexer) Refusal}
+    → read ≡ read' → Ended kind s c read' r → Ended kind s c read r
+handed-on e h = rw e h
 
 -- a number of so many bytes, and what is made of it
 pub num-ended : {V : Type 0} (value : V → ℕ) (w : ℕ) → 0 < w → (s : List ℕ) (c : Lexer) {read : Result (V × ℕ) Eof} → read_as value read ≡ at (num w) s c.at → {r : Result (V × Lexer) Refusal}

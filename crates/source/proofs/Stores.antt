@@ -1,16 +1,16 @@
--- Runs of stores, `sets`: how two runs compose, and what the library's copies leave. Assumes nothing.
+-- Runs of stores, `sets`: how two runs compose, a turn of a loop that moves bytes, and what a part of a list leaves in it. Assumes nothing.
 use mathlib.Core.Path.{◌≡◌, refl, sym, ap, ◌∙◌}
 use mathlib.Core.List.{List, [], ◌++◌, append_assoc, append-nil}
 use native.Mathlib.Nat.{zero-add}
-use Prim.Native.Nat.{ℕ, ◌+◌, ◌-◌, ◌≤◌}
+use Prim.Native.Nat.{ℕ, ◌+◌, ◌-◌, ◌≤◌, ◌<◌}
 use native.Mathlib.Omega.{arith}
-use lib.ListN.{length, take, drop, drop_of_length-le, length-drop}
-use lib.Seq.{sets, sets-eq, paste, drop-drop, length-sets, length-take-le, take_at}
+use lib.ListN.{length, take, drop, get_or, set, drop_of_length-le, length-drop}
+use lib.Seq.{sets, sets-eq, drop-drop, drop-set-lt, length-sets, take_at}
 use borrow.Rule.Slice.PartMut.{put_mid}
 use Rattle.std.proofs.lemmas.List.Edits.{paste_all}
 use Rattle.std.proofs.lemmas.Slice.{put_mid-paste}
 use Rattle.std.proofs.Common.{take_all}
-use Rattle.laws.proofs.Runs.{sets-append}
+use Rattle.laws.proofs.Runs.{sets-append, copy_step}
 
 -- two runs are one run, where the second begins at a place that is given otherwise
 pub sets_then : (a b l : List ℕ) (i j : ℕ) → j ≡ i + length a → sets (sets l i a) j b ≡ sets l i (a ++ b)
@@ -20,11 +20,12 @@ sets_then a b l i j h = ap (λ (k : ℕ). sets (sets l i a) k b) h ∙ sets-appe
 pub take-sets : (l a : List ℕ) (n : ℕ) → length a ≡ n → n ≤ length l → take n (sets l 0 a) ≡ a
 take-sets l a n e h = ap (take n) (sets-eq a l 0 (omega arith)) ∙ take_at a (drop (0 + length a) l) n e
 
--- what `copy_within` to the front leaves is a run of stores
-pub paste_sets : (l s : List ℕ) (n len : ℕ) → n ≡ len → len ≤ length s → len ≤ length l → paste l 0 s n ≡ sets l 0 (take len s)
-paste_sets l s n len e h k =
-    let m = length-take-le len s h in
-    ap (λ (i : ℕ). paste l 0 s i) e ∙ ap (λ (i : ℕ). take 0 l ++ take len s ++ drop (0 + i) l) (sym m) ∙ sym (sets-eq (take len s) l 0 (omega (arith, m)))
+-- a turn that moves a byte of the list itself towards the front: what is still to be moved stands behind the byte that is written
+pub slide-step : (l : List ℕ) (i j left : ℕ) → 0 < left → i ≤ j → j < length l
+    → sets (set l i (get_or l j 0)) (i + 1) (take (left - 1) (drop (j + 1) (set l i (get_or l j 0)))) ≡ sets l i (take left (drop j l))
+slide-step l i j left h o k =
+    ap (λ (r : List ℕ). sets (set l i (get_or l j 0)) (i + 1) (take (left - 1) r)) (drop-set-lt (j + 1) l i (get_or l j 0) (omega arith))
+    ∙ copy_step l l i j left h k
 
 -- what `&l[a..]` is
 abbrev pub onwards : List ℕ → ℕ → List ℕ

@@ -4,6 +4,7 @@
 
 ghost use Rattle.std.specs.Prelude.{◌≡◌, [], ◌∷◌, ◌<◌};
 ghost use Rattle.form.specs.Numbers.{le_bytes};
+ghost use Rattle.form.specs.Put.{Put};
 ghost use Rattle.form.specs.Ascii.{ascii, digit as Ascii·digit, decimal, signed, hex, hex_or_dash, truth, spaced, line};
 ghost use Rattle.text.specs.Puts.{Puts};
 
@@ -20,6 +21,17 @@ fn digit(d: u8) -> u8
     ensures { result ≡ Ascii·digit d }
 {
     if d < 10 { b'0' + d } else { b'a' + (d - 10) }
+}
+
+// Bytes in hex, from a place on; the place after them. It has a printer of its own, whose place is kept in a register.
+fn hex_at(out: &mut [u8], at: usize, src: &[u8]) -> usize
+    ensures { Put out.old at (hex src.now) out.new result }
+{
+    let mut p = Printer { out, at };
+    for b in src {
+        p.put_pair(*b);
+    }
+    p.at
 }
 
 impl Printer<'_> {
@@ -73,9 +85,7 @@ impl Printer<'_> {
     fn put_hex(&mut self, src: &[u8])
         ensures { Puts self.old self.new (hex src.now) }
     {
-        for b in src {
-            self.put_pair(*b);
-        }
+        self.at = hex_at(self.out, self.at, src);
     }
 
     // The bytes of a text in hex, or `-` for none.

@@ -1,5 +1,6 @@
 // Bytes into a lent output, one after the other.
-ghost use Rattle.std.specs.Prelude.{◌+◌, length};
+ghost use Rattle.std.specs.Prelude.{◌+◌, ◌≡◌, ◌≤◌, length};
+ghost use Rattle.std.proofs.lemmas.List.Edits.{sets};
 ghost use Rattle.form.specs.Numbers.{le_bytes};
 ghost use Rattle.form.specs.Spelling.{spelled_channel};
 ghost use Rattle.writer.specs.Layouts.{id_number as Layouts·id_number, id_text as Layouts·id_text, colour_end as Layouts·colour_end, channels as Layouts·channels, id_colour as Layouts·id_colour, spelled_by};
@@ -8,6 +9,29 @@ ghost use Rattle.writer.specs.Pens.{Room, Puts};
 use crate::layout::Layout;
 use lexeme::LexemeId;
 use payload::Rgb;
+
+// The low width bytes of x from a place on, the lowest first. It has no pen, whose place would be stored and loaded for each of them.
+fn store_number(out: &mut [u8], at: usize, width: usize, x: u64)
+    requires { at + width ≤ length out.old }
+    ensures { out.new ≡ sets out.old at (le_bytes width x) }
+{
+    let end = at + width;
+    let mut rest = x;
+    for i in at..end {
+        out[i] = (rest % 256) as u8;
+        rest = rest / 256;
+    }
+}
+
+// All of src from a place on. A library's copy of so many bytes would be `memmove`, which nothing else asks for, and a call for a single byte.
+fn store(out: &mut [u8], at: usize, src: &[u8])
+    requires { at + length src.now ≤ length out.old }
+    ensures { out.new ≡ sets out.old at src.now }
+{
+    for i in 0..src.len() {
+        out[at + i] = src[i];
+    }
+}
 
 // A lent output, and the place of the next byte in it.
 #[derive(Drop)]
@@ -22,13 +46,8 @@ impl Pen<'_> {
         requires { Room self.old width }
         ensures { Puts self.old self.new (le_bytes width x) }
     {
-        let end = self.at + width;
-        let mut rest = x;
-        for i in self.at..end {
-            self.out[i] = (rest % 256) as u8;
-            rest = rest / 256;
-        }
-        self.at = end;
+        store_number(self.out, self.at, width, x);
+        self.at += width;
     }
 
     // All of src.
@@ -36,9 +55,8 @@ impl Pen<'_> {
         requires { Room self.old (length src.now) }
         ensures { Puts self.old self.new src.now }
     {
-        let end = self.at + src.len();
-        self.out[self.at..end].copy_from_slice(src);
-        self.at = end;
+        store(self.out, self.at, src);
+        self.at += src.len();
     }
 
     fn id(&mut self, x: LexemeId)

@@ -1,4 +1,5 @@
 -- `payload::read_i32` meets its contract. Assumes nothing.
+use Rattle.std.specs.Prelude.{Err}
 use mathlib.Core.Path.{◌≡◌, sym}
 use native.Mathlib.Omega.{arith}
 use Rattle.std.proofs.Common.{rules, to_z, of_z}
@@ -10,7 +11,10 @@ use Rattle.payload.proofs.read_i32.Goals as goal
 
 pub returns-in_err-x : goal.returns-in_err-x
 unfolding mapped
-returns-in_err-x c = rw (handed _ c.from_residual.ensures, sym c.in_err-x.ensures)
+returns-in_err-x c =
+    let e : c.read_width.result ≡ Err c.in_err-x.field-0.0 = search rules in
+    let h = rw e at c.read_width.ensures in
+    rw (handed _ c.from_residual.ensures, sym h)
 
 pub signed32-requires : goal.signed32-requires
 signed32-requires c = let a = c.args in omega (arith, num-lt 4 a.bytes.now a.at c.type_inv.bytes (sym c.in_ok-x.ensures))

@@ -1,8 +1,11 @@
 -- `lexer::Lexer::read_rgb` meets its contract. Assumes nothing.
 use Rattle.laws.proofs.Inside.{rgb-inside}
 use Rattle.payload.specs.Answers.{colour_of}
-use Rattle.lexer.proofs.Endings.{lexed-ended}
+use Rattle.std.proofs.Common.{rules}
+use Rattle.lexer.proofs.Endings.{lexed-ended, handed-on}
 use Rattle.lexer.proofs.Lexer.read_rgb.Goals as goal
 
 pub returns : goal.returns
-returns c = lexed-ended colour_of _ _ _ rgb-inside _ c.read_rgb.ensures _ c.ended.ensures
+returns c =
+    let h = lexed-ended colour_of _ _ _ rgb-inside _ c.read_rgb.ensures _ (handed-on (search rules) c.ended.ensures) in
+    search (rules, h)
