@@ -1,18 +1,21 @@
 -- Laws of the calls on a source, whatever is called. Assumes nothing.
 use Prim.Native.Nat.{ℕ, ◌+◌, ◌≤◌}
 use native.Mathlib.Omega.{arith}
-use mathlib.Core.Path.{◌≡◌, refl}
+use mathlib.Core.Path.{◌≡◌, refl, subst}
 use mathlib.Core.Bool.{Bool, true, false}
 use mathlib.Core.List.{List}
 use lib.ListN.{length}
 use borrow.Author.Tests.{le-leb}
 use Rattle.form.specs.Calls as F
 use Rattle.std.proofs.Common.{Result, Ok}
+use Rattle.source.specs.Answers.{window_len_answer}
+use Rattle.source.specs.declared.answers.ParserError.{ParserError}
 use Rattle.source.specs.declared.ParserSource.{ParserSource}
 use Rattle.source.specs.Window.{Drawn, drawn, Draw, drawn_then, if_given, unread, held_in, window, taken_part, window_len, window_of}
 use Rattle.source.proofs.Cases.{by-check, held}
-use Rattle.capi.specs.Replies.{Reply, returned, into}
+use Rattle.capi.specs.Replies.{Reply, reply_of, returned, into}
 use Rattle.capi.specs.Code.{as_reply}
+use Rattle.capi.specs.Words.{text_words}
 use Rattle.capi.specs.Sources.{with_state, asked, source_reply_of, source_reply_to, caller_has, called_from, called, as_part, window_part}
 use Rattle.capi.specs.declared.states.BadCall.{BadCall}
 use Rattle.capi.specs.declared.source_replies.SourceReply as C
@@ -41,6 +44,12 @@ module _ (answer state : List ℕ) {a : Result ParserSource BadCall} (ask : a �
   called-by f x e g l h = rw (← ask, e, ← g, ← l, h.0, h.1)
 
 -- ---- `window`
+
+-- the reply of what is handed on is that of what the source answered
+pub part-of : (s : ParserSource) (x : C.SourceReply) {r t : Result ℕ ParserError} {buffer : List ℕ}
+    → source_reply_of x buffer ≡ source_reply_to (reply_of text_words) (λ l. as_part (window_len_answer s r l)) buffer → r ≡ t
+    → source_reply_of x buffer ≡ source_reply_to (reply_of text_words) (λ l. as_part (window_len_answer s t l)) buffer
+part-of s x {buffer = buffer} h e = subst (λ r. source_reply_of x buffer ≡ source_reply_to (reply_of text_words) (λ l. as_part (window_len_answer s r l)) buffer) e h
 
 -- the bytes of its part are those of `window`
 pub part_bytes : (supply schedule : List ℕ) (s : ParserSource) (buffer : List ℕ) → taken_part supply (window_part supply schedule s buffer) ≡ window_of supply schedule s buffer

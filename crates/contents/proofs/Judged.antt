@@ -114,6 +114,10 @@ module _ {o : Output} {d : List ℕ} where
   unfolding leaves
   written-so z h e = record { answer = h; output = e ∙ rw z }
 
+-- the same, of an output that is as it was when what is written was judged
+pub refused-left : (l : List F.Entry) {d d' : List ℕ} {why : Refusal} → d' ≡ d → declined why ≡ outcome (write_file (length d') l) → Follows (write_file (length d) l) (declined why) d d'
+refused-left l e h = rw e (refused-so (rw e at h))
+
 -- numbers, two for each entry
 module _ (ns : List ℕ) where
   pub search-odd : (p : ℕ) → paired ns ≡ none → unsearched R.BadIndex ≡ search_numbers ns p

@@ -1,7 +1,7 @@
 // The walk from key to key, over tokens that are told by their ids.
 #![tactic(auto)]
 
-ghost use Rattle.std.specs.Prelude.{◌≡◌, ◌-◌};
+ghost use Rattle.std.specs.Prelude.{◌≡◌, ◌-◌, is_some, not};
 ghost use Rattle.std.proofs.Math.Option.{none, some};
 ghost use Rattle.form.specs.Values.{Id};
 ghost use Rattle.form.specs.Readers.{at as read_at};
@@ -38,6 +38,16 @@ fn is_wanted(id: LexemeId, wanted: Option<LexemeId>) -> bool
         return true;
     };
     id.is(named)
+}
+
+// Whether a token that is no plain id is wanted. By both cases: as `is_none` it is compared anew for each token.
+fn is_other_wanted(wanted: Option<LexemeId>) -> bool
+    ensures { is_some wanted ≡ not result }
+{
+    match wanted {
+        Some(_) => false,
+        None => true,
+    }
 }
 
 fn fixed(bytes: &[u8], at: usize, width: usize) -> Result<(Passed, usize), LexError>
@@ -161,7 +171,7 @@ pub fn next_key(
                 }
             }
             Passed::Other => {
-                if is_key(bytes, end, value, depth, wanted.is_none()) {
+                if is_key(bytes, end, value, depth, is_other_wanted(wanted)) {
                     return Ok(Some(Key { at, end }));
                 }
             }

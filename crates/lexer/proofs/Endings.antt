@@ -7,6 +7,8 @@ use mathlib.Core.Bool.{Bool, true, false, ◌&&◌}
 use mathlib.Core.Option.{Option, none, some}
 use mathlib.Core.List.{List}
 use Rattle.std.specs.Prelude.{Result, Ok, Err, Option as MayBe}
+use Rattle.std.proofs.Common.{ControlFlow, Continue, to_z-of_z}
+use Rattle.std.specs.Result.{result_or, result_and, result_from_control_flow}
 use lib.ListN.{length}
 use lib.Dec.{eqb}
 use borrow.Author.Tests.{eqb-true, ne_eqb}
@@ -28,6 +30,7 @@ use Rattle.payload.specs.declared.answers.LexError.{LexError}
 use Rattle.payload.specs.declared.answers.LexError.TheVariants.{Eof as Lacks}
 use Rattle.payload.specs.declared.answers.LexErrorAt.{LexErrorAt}
 use Rattle.token.specs.Tokens.{token_of, token_at}
+use Rattle.token.specs.declared.Token.{Token}
 use Rattle.skip.specs.Skips.{skip_answer}
 use Rattle.lexer.specs.Calls.{cursor_of, refusal_of, read_call, next_call, staying_call, Lands}
 use Rattle.lexer.specs.Twins.{Ends, Ended, next_of, peek_of}
@@ -233,10 +236,68 @@ module _ {V A : Type 0} (value : V → A) (f : ByPlace A) (s : List ℕ) (c : Le
       → p ≡ peek_of q → staying_call (option_as value) c p ≡ peeks f s (cursor_of c)
   peeked-by q h e = rw e (peeked q h)
 
--- what is read is what is handed on
-pub handed-on : {V E : Type 0} {kind : E → LexError → Type 0} {s : List ℕ} {c : Lexer} {read read' : Result (V × ℕ) E} {r : Result (V × Lexer) Refusal}
-    → read ≡ read' → Ended kind s c read' r → Ended kind s c read r
-handed-on e h = rw e h
+-- ---- `or` and `and` of two answers: what both stand for
+
+module _ {V A : Type 0} (value : V → A) where
+  pub lacks-or : {y : Answer A} {r : Result (V × ℕ) Eof} (a b : Result (V × ℕ) Eof) → r ≡ result_or a b → read_as value a ≡ y → read_as value b ≡ y → read_as value r ≡ y
+  lacks-or (Ok x) b e h i = rw e h
+  lacks-or (Err w) b e h i = rw e i
+
+  pub lexed-or : {y : Answer A} {r : Result (V × ℕ) LexError} (a b : Result (V × ℕ) LexError) → r ≡ result_or a b → lexed_as value a ≡ y → lexed_as value b ≡ y → lexed_as value r ≡ y
+  lexed-or (Ok x) b e h i = rw e h
+  lexed-or (Err w) b e h i = rw e i
+
+  module _ (c : Lexer) where
+    pub read-or : {y : Call A} {r : Result (V × Lexer) Refusal} (a b : Result (V × Lexer) Refusal) → r ≡ result_or a b → read_call value c a ≡ y → read_call value c b ≡ y → read_call value c r ≡ y
+    read-or (Ok x) b e h i = rw e h
+    read-or (Err w) b e h i = rw e i
+
+    -- what `?` finds in it
+    pub read-got : {y : Call A} {r : Result (V × Lexer) Refusal} → read_call value c r ≡ y → {a : A} {e : Cursor} (b : ControlFlow _ (V × Lexer)) (v : V) (d : Lexer)
+        → r ≡ result_from_control_flow b → b ≡ Continue (v, d) → a ≡ value v → e ≡ cursor_of d → gives a e ≡ y
+    read-got h b v d p q i j = rw (i, j) (sym (ap (read_call value c) (p ∙ ap result_from_control_flow q)) ∙ h)
+
+    pub stays-or : {y : Call A} {r : Result V Refusal} (a b : Result V Refusal) → r ≡ result_or a b → staying_call value c a ≡ y → staying_call value c b ≡ y → staying_call value c r ≡ y
+    stays-or (Ok x) b e h i = rw e h
+    stays-or (Err w) b e h i = rw e i
+
+    pub stays-and : {y : Call A} {r : Result V Refusal} (a b : Result V Refusal) → r ≡ result_and a b → staying_call value c a ≡ y → staying_call value c b ≡ y → staying_call value c r ≡ y
+    stays-and (Ok x) b e h i = rw e i
+    stays-and (Err w) b e h i = rw e h
+
+    -- the place is looked at first
+    pub placed-and : (f : ByPlace A) (s : List ℕ) {r : Result (V × Lexer) Refusal} (p : Result (Unit {0}) Refusal) (q : Result (V × Lexer) Refusal) → r ≡ result_and p q
+        → staying_call (λ x. x) c p ≡ within s (cursor_of c) (gives tt (cursor_of c)) → read_call value c q ≡ reads f s (cursor_of c) → read_call value c r ≡ reads f s (cursor_of c)
+    unfolding reads
+    placed-and f s (Ok y) q e h i = rw e i
+    placed-and f s (Err w) q e h i = rw e (told-outside c s h refl _)
+
+    pub placed-peek : (f : ByPlace A) (s : List ℕ) {r : Result (MayBe V) Refusal} (p : Result (Unit {0}) Refusal) (q : Result (MayBe V) Refusal) → r ≡ result_and p q
+        → staying_call (λ x. x) c p ≡ within s (cursor_of c) (gives tt (cursor_of c)) → staying_call (option_as value) c q ≡ peeks f s (cursor_of c)
+        → staying_call (option_as value) c r ≡ peeks f s (cursor_of c)
+    unfolding peeks
+    placed-peek f s (Ok y) q e h i = rw e i
+    placed-peek f s (Err w) q e h i = rw e (told-outside c s h refl _)
+
+-- a read of a token ends so, as the code's answer has the token itself
+pub token-ended : (s : List ℕ) (c : Lexer) (read : Result (Token × ℕ) LexError) → lexed_as (λ t. t) read ≡ token_at s c.at → (r : Result (Token × Lexer) Refusal) → Ended (λ e k. k ≡ e) s c read r
+    → read_call (λ t. t) c r ≡ reads token_at s (cursor_of c)
+token-ended s c = lexed-ended (λ t. t) token_at s c token_begins
+
+-- what is found of it by a pattern, and by `?`
+pub token-got : (s : List ℕ) (c : Lexer) {a : Token} {e : Cursor} (r : Result (Token × Lexer) Refusal) (v : Token) (d : Lexer) → r ≡ Ok (v, d)
+    → read_call (λ t. t) c r ≡ reads token_at s (cursor_of c) → a ≡ v → e ≡ cursor_of d → gives a e ≡ reads token_at s (cursor_of c)
+token-got s c r v d p h i j = rw (i, j) (sym (ap (read_call (λ t. t) c) p) ∙ h)
+
+pub token-tried : (s : List ℕ) (c : Lexer) {a : Token} {e : Cursor} (r : Result (Token × Lexer) Refusal) (b : ControlFlow _ (Token × Lexer)) (v : Token) (d : Lexer) → r ≡ result_from_control_flow b
+    → b ≡ Continue (v, d) → read_call (λ t. t) c r ≡ reads token_at s (cursor_of c) → a ≡ v → e ≡ cursor_of d → gives a e ≡ reads token_at s (cursor_of c)
+token-tried s c r b v d p q = token-got s c r v d (p ∙ ap result_from_control_flow q)
+
+-- ---- what an answer goes by: of a token, and of a read or a peek that is made of two
+
+pub ruleset of_token = (token-ended, token-got, token-tried)
+
+pub ruleset either = (to_z-of_z, lacks-or, lexed-or, read-or, read-got, stays-or, stays-and, placed-and, placed-peek)
 
 -- a number of so many bytes, and what is made of it
 pub num-ended : {V : Type 0} (value : V → ℕ) (w : ℕ) → 0 < w → (s : List ℕ) (c : Lexer) {read : Result (V × ℕ) Eof} → read_as value read ≡ at (num w) s c.at → {r : Result (V × Lexer) Refusal}

@@ -10,7 +10,8 @@ use crate::answers::{Lexed, Refusal};
 use token::Token;
 
 impl Lexer {
-    // A token: an id and its payload.
+    // A token: an id and its payload. Compiled into each caller, as token's.
+    #[inline(always)]
     pub fn read_token(self, bytes: &[u8]) -> Lexed<Token>
         ensures { read_call (λ t. t) self result ≡ reads token_at bytes.now (cursor_of self) }
     {

@@ -89,7 +89,7 @@ module _ (s : List ℕ) (b : (j : ℕ) → Fits w8 (get_or s j 0)) (p : ℕ) whe
     -- as it stands, by the number after its id
     pub number-arm : {w m : ℕ} → KeptNumber w m i → (r : Option Spelling) → Below m w s next r → Spelt s p r
     number-arm k None h = tt
-    number-arm k (Some (Number x q)) h = absurd h
+    number-arm k (Some (Number q x)) h = absurd h
     number-arm {w} {m} k (Some (Stands q)) h =
         let a = took 2 s p e in
         let c = took w s next h.2 in
@@ -100,7 +100,7 @@ module _ (s : List ℕ) (b : (j : ℕ) → Fits w8 (get_or s j 0)) (p : ℕ) whe
     -- by the text
     pub text-arm : KeptText i → (r : Option Spelling) → Within string s next r → Spelt s p r
     text-arm k None h = tt
-    text-arm k (Some (Number x q)) h = absurd h
+    text-arm k (Some (Number q x)) h = absurd h
     text-arm k (Some (Stands q)) h =
         let a = took 2 s p e in
         let c = text-length s next h.1 in
@@ -110,7 +110,7 @@ module _ (s : List ℕ) (b : (j : ℕ) → Fits w8 (get_or s j 0)) (p : ℕ) whe
     -- by the colour
     pub colour-arm : KeptColour i → (r : Option Spelling) → Within rgb s next r → Spelt s p r
     colour-arm k None h = tt
-    colour-arm k (Some (Number x q)) h = absurd h
+    colour-arm k (Some (Number q x)) h = absurd h
     colour-arm k (Some (Stands q)) h =
         let a = took 2 s p e in
         let c = ended rgb s next h.1 in
@@ -131,15 +131,15 @@ module _ (s : List ℕ) (b : (j : ℕ) → Fits w8 (get_or s j 0)) (p : ℕ) whe
     unfolding wide kind reason writable
     lookup-arm k None h = tt
     lookup-arm k (Some (Stands q)) h = absurd h
-    lookup-arm k (Some (Number (F64 x) q)) h = absurd h
-    lookup-arm k (Some (Number (Lookup x) q)) h = value-spells k h.1 (rw (lt-ltb x (2 ^ 24) h.0))
+    lookup-arm k (Some (Number q (F64 x))) h = absurd h
+    lookup-arm k (Some (Number q (Lookup x))) h = value-spells k h.1 (rw (lt-ltb x (2 ^ 24) h.0))
 
     pub float-arm : {w : ℕ} (g : ℕ → ℕ) → T.after i ≡ number w (λ n. F.F64 (g n)) → (r : Option Spelling) → Floats (mapped g (at (num w) s next)) r → Spelt s p r
     unfolding wide kind mapped
     float-arm g k None h = tt
     float-arm g k (Some (Stands q)) h = absurd h
-    float-arm g k (Some (Number (Lookup x) q)) h = absurd h
-    float-arm {w} g k (Some (Number (F64 x) q)) h = go (at (num w) s next) refl h
+    float-arm g k (Some (Number q (Lookup x))) h = absurd h
+    float-arm {w} g k (Some (Number q (F64 x))) h = go (at (num w) s next) refl h
       where
         go : (a : Answer ℕ) → at (num w) s next ≡ a → mapped g a ≡ found x q → SpeltToken s p q (spell (F.F64 x))
         go (found y q') r h = let u : g y ≡ x = cc in let v : q' ≡ q = cc in rw (← u, ← v) (value-spells k r refl)

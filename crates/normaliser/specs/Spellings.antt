@@ -20,27 +20,27 @@ number_value (Lookup x) = F.Lookup x
 -- a number of w bytes below m stands at p, up to the place that is answered
 abbrev pub Below : ℕ → ℕ → List ℕ → ℕ → Option Spelling → Type 0
 Below m w s p (Some (S.Stands q)) = (x : ℕ) × (x < m) × (at (num w) s p ≡ found x q)
-Below m w s p (Some (S.Number x q)) = ⊥
+Below m w s p (Some (S.Number q x)) = ⊥
 Below m w s p None = Unit {0}
 
 -- what f reads
 abbrev pub Within : {A : Type 0} → Reader A → List ℕ → ℕ → Option Spelling → Type 0
 Within {A} f s p (Some (S.Stands q)) = (a : A) × (at f s p ≡ found a q)
-Within f s p (Some (S.Number x q)) = ⊥
+Within f s p (Some (S.Number q x)) = ⊥
 Within f s p None = Unit {0}
 
 -- a number that was found, as a float
 abbrev pub Floats : Answer ℕ → Option Spelling → Type 0
 Floats a (Some (S.Stands q)) = ⊥
-Floats a (Some (S.Number (F64 x) q)) = a ≡ found x q
-Floats a (Some (S.Number (Lookup x) q)) = ⊥
+Floats a (Some (S.Number q (F64 x))) = a ≡ found x q
+Floats a (Some (S.Number q (Lookup x))) = ⊥
 Floats a None = Unit {0}
 
 -- or as a lookup that can be written
 abbrev pub Indexes : Answer ℕ → Option Spelling → Type 0
 Indexes a (Some (S.Stands q)) = ⊥
-Indexes a (Some (S.Number (F64 x) q)) = ⊥
-Indexes a (Some (S.Number (Lookup x) q)) = (x < 2 ^ 24) × (a ≡ found x q)
+Indexes a (Some (S.Number q (F64 x))) = ⊥
+Indexes a (Some (S.Number q (Lookup x))) = (x < 2 ^ 24) × (a ≡ found x q)
 Indexes a None = Unit {0}
 
 -- ---- a token
@@ -52,7 +52,7 @@ SpeltToken s p q bs = (p < q) × Spells normal_style s p q bs
 -- the token at p is spelled so
 abbrev pub Spelt : List ℕ → ℕ → Option Spelling → Type 0
 Spelt s p (Some (S.Stands q)) = SpeltToken s p q (between s p q)
-Spelt s p (Some (S.Number x q)) = SpeltToken s p q (spell (number_value x))
+Spelt s p (Some (S.Number q x)) = SpeltToken s p q (spell (number_value x))
 Spelt s p None = Unit {0}
 
 -- and so is one whose id i ends at q

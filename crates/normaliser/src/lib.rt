@@ -156,13 +156,15 @@ impl Pass for Normal {
         loop {
             let run = spelling::standing(bytes, at);
             let end = run.end;
-            need = copy_run(bytes, at, end, out, need);
+            // The run is copied in each arm: so each end of `standing`'s loop is the arm itself.
             match run.next {
                 Some((x, next)) => {
+                    need = copy_run(bytes, at, end, out, need);
                     need = put_spelling(out, need, x);
                     at = next;
                 }
                 None => {
+                    need = copy_run(bytes, at, end, out, need);
                     if end == bytes.len() {
                         return Ok(need);
                     }

@@ -14,11 +14,11 @@ pub(crate) enum Number {
     Lookup(u32),
 }
 
-// How a token is spelled, and the place after it: as it stands, or as a number.
+// The place after a token, and how it is spelled: as it stands, or as a number. The place is first, so that both have it in the same bytes.
 #[derive(Clone, Copy)]
 enum Spelling {
     Stands(usize),
-    Number(Number, usize),
+    Number(usize, Number),
 }
 
 // Up to where tokens stand as they are spelled; and how the one after them is, where it is spelled as a number.
@@ -71,7 +71,7 @@ fn lookup(x: u32, next: usize) -> Option<Spelling>
     if 0xff_ffff < x {
         return None;
     }
-    Some(Spelling::Number(Number::Lookup(x), next))
+    Some(Spelling::Number(next, Number::Lookup(x)))
 }
 
 // A compact number.
@@ -79,7 +79,7 @@ fn compact(bytes: &[u8], at: usize, width: usize, negative: bool) -> Option<Spel
     ensures { Floats (Compact·compact width negative bytes.now at) result }
 {
     let (x, next) = payload::read_compact_f64(bytes, at, width, negative).ok()?;
-    Some(Spelling::Number(Number::F64(x), next))
+    Some(Spelling::Number(next, Number::F64(x)))
 }
 
 // The token of an id among those of lookups and compact numbers, which ends at a place.
@@ -159,7 +159,7 @@ pub(crate) fn standing(bytes: &[u8], start: usize) -> Run
             Some(Spelling::Stands(next)) => {
                 at = next;
             }
-            Some(Spelling::Number(x, next)) => {
+            Some(Spelling::Number(next, x)) => {
                 return Run {
                     end: at,
                     next: Some((x, next)),

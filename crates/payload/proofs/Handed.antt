@@ -2,10 +2,14 @@
 use Prim.Native.Nat.{ℕ}
 use mathlib.Core.Path.{◌≡◌, refl, sym, ap, ◌∙◌, subst}
 use Rattle.form.specs.Refusals.{Fault}
-use Rattle.form.specs.Readers.{Answer, found, refused, placed}
+use Rattle.form.specs.Readers.{Answer, found, refused, and_then, placed}
 use Rattle.std.specs.Prelude.{Result, Ok, Err, IsErr}
 use Rattle.std.specs.Result.{MatchResult, IsErrAnd}
 use Rattle.laws.proofs.Never.{never}
+use Rattle.payload.specs.Answers.{read_as, lexed_as}
+use Rattle.payload.specs.declared.answers.Eof.{Eof}
+use Rattle.payload.specs.declared.answers.LexError.{LexError}
+use Rattle.payload.specs.declared.answers.LexError.TheVariants.{Eof as Lacks}
 
 -- what was asked for, by the answer as the branch has it: a value or a refusal
 pub got_of : {E A : Type 0} (answer : E → Answer A) {r t : E} {a : Answer A} → answer r ≡ a → r ≡ t → a ≡ answer t
@@ -15,6 +19,16 @@ got_of answer p q = sym p ∙ ap answer q
 pub handed : {V E : Type 0} {e : E} (r : Result V E) → IsErr r × IsErrAnd r (λ x. x ≡ e) → r ≡ Err e
 handed (Ok x) h = absurd h.1
 handed (Err x) h = ap Err h.1
+
+-- where what bytes lack is handed on as what a token is refused for
+abbrev pub Lacked : {V W : Type 0} → Result V Eof → Result W LexError → Type 0
+Lacked read r = MatchResult read (λ _. ⊥) (λ e. r ≡ Err (Lacks e.0))
+
+pub lacked : {V W A B : Type 0} (value : V → A) (made : W → B) (read : Result (V × ℕ) Eof) (r : Result (W × ℕ) LexError) → Lacked read r
+    → {x : Answer A} → read_as value read ≡ x → (f : A → ℕ → Answer B) → lexed_as made r ≡ and_then x f
+unfolding and_then
+lacked value made (Ok y) r l e f = absurd l
+lacked value made (Err d) r l e f = rw (l, sym e)
 
 -- what `map_err` was given, by what it returns: its closure makes errors as P says
 module _ {V E D : Type 0} (P : E → D → Type 0) where

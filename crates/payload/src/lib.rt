@@ -1,4 +1,5 @@
-// Payload reads: a slice and a place in, a value and the place after it out, or a refusal. No position is known here.
+// Payload reads: a slice and a place in, a value and the place after it out, or a refusal. No position is known here. Those that are marked to be
+// inlined are arms of token's read, which is compiled into each of its callers: with so many places they would be calls.
 #![tactic(auto)]
 
 pub mod answers;
@@ -44,6 +45,7 @@ pub fn read_bytes(bytes: &[u8], at: usize, count: usize) -> Read<Text>
 }
 
 // A string: two bytes of length, and as many bytes of text.
+#[inline(always)]
 pub fn read_string(bytes: &[u8], at: usize) -> Read<Text>
     ensures { read_as (λ x. x) result ≡ placed text_of (read_at string bytes.now at) }
 {
@@ -67,6 +69,7 @@ pub fn read_u32(bytes: &[u8], at: usize) -> Read<u32>
 }
 
 // An unsigned number of eight bytes.
+#[inline(always)]
 pub fn read_u64(bytes: &[u8], at: usize) -> Read<u64>
     ensures { read_as (λ x. x) result ≡ read_at (num 8) bytes.now at }
 {
@@ -82,6 +85,7 @@ pub fn read_i32(bytes: &[u8], at: usize) -> Read<i32>
 }
 
 // A signed number of eight bytes.
+#[inline(always)]
 pub fn read_i64(bytes: &[u8], at: usize) -> Read<i64>
     ensures { read_as (λ x. x) result ≡ mapped (to_z w64) (read_at (num 8) bytes.now at) }
 {
@@ -97,6 +101,7 @@ pub fn read_f32(bytes: &[u8], at: usize) -> Read<u32>
 }
 
 // The number that the eight bytes of a float spell.
+#[inline(always)]
 pub fn read_f64(bytes: &[u8], at: usize) -> Read<u64>
     ensures { read_as (λ x. x) result ≡ read_at (num 8) bytes.now at }
 {

@@ -9,7 +9,6 @@ use lib.Dec.{eqb}
 use borrow.Author.Tests.{eqb-true}
 use Rattle.form.specs.Numbers.{le}
 use Rattle.form.specs.Table.{Payload, number, text, colour, entries, after}
-use Rattle.form.specs.Refusals.{Fault}
 use Rattle.form.specs.Readers.{Answer, found, refused, mapped, placed, at}
 use Rattle.form.specs.Reading.{next, num, string}
 use Rattle.form.specs.Skipping.{passing}

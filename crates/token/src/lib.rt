@@ -60,7 +60,9 @@ fn rgb_token(read: Result<(Rgb, usize), LexError>) -> Result<(Token, usize), Lex
     ensures { token_answer result ≡ placed token_of (lexed_as colour_of read) }
 {
     let (colour, next) = read?;
-    Ok((Token::Rgb(colour), next))
+    // Field by field: as one piece it is stored and loaded at places that overlap, and waits.
+    let Rgb { r, g, b, a } = colour;
+    Ok((Token::Rgb(Rgb { r, g, b, a }), next))
 }
 
 // The same of a compact number.
@@ -90,6 +92,7 @@ fn empty_token(next: usize) -> Token
 
 // The token of an id that ends at a place. Reads that are compiled as calls get a slice of their own: the address of this one is then
 // nobody's, and it stays in registers.
+#[inline(always)]
 fn by_id(bytes: &[u8], id: LexemeId, next: usize) -> Result<(Token, usize), LexError>
     ensures { token_answer result ≡ placed token_of (read_at (payload (after id.0)) bytes.now next) }
 {
@@ -133,7 +136,9 @@ fn by_id(bytes: &[u8], id: LexemeId, next: usize) -> Result<(Token, usize), LexE
     }
 }
 
-// The token at a place, and the place after it.
+// The token at a place, and the place after it. It is compiled into each caller, which makes what it needs of the answer alone: as a call it
+// answers in memory.
+#[inline(always)]
 pub fn read_token(bytes: &[u8], at: usize) -> Result<(Token, usize), LexError>
     ensures { token_answer result ≡ token_at bytes.now at }
 {

@@ -56,18 +56,18 @@ loop-at-preserved-else-is_key c =
 
 pub returns-then-is_key-2 : goal.returns-then-is_key-2
 returns-then-is_key-2 c =
-    let m = other-may c.args.wanted _ _ (known-as c.pass.ensures c.in-Ok.is c.in-Other.is) c.is_none.ensures in
+    let m = other-may c.args.wanted _ _ (known-as c.pass.ensures c.in-Ok.is c.in-Other.is) c.is_other_wanted.ensures in
     to-key _ _ _ _ _ m c.is_key-in-Other.ensures c.loop-at.invariant.1 c.loop-at.invariant.2 c.if-is_key-2.true
 
 pub loop-at-smaller : goal.loop-at-smaller
 loop-at-smaller c =
-    let m = other-may c.args.wanted _ _ (known-as c.pass.ensures c.in-Ok.is c.in-Other.is) c.is_none.ensures in
+    let m = other-may c.args.wanted _ _ (known-as c.pass.ensures c.in-Ok.is c.in-Other.is) c.is_other_wanted.ensures in
     (to-value _ _ _ _ _ m c.is_key-in-Other.ensures c.if-is_key-2.false).less
 
 pub loop-at-preserved : goal.loop-at-preserved
 loop-at-preserved c =
     let l = c.loop-at in
-    let m = other-may c.args.wanted _ _ (known-as c.pass.ensures c.in-Ok.is c.in-Other.is) c.is_none.ensures in
+    let m = other-may c.args.wanted _ _ (known-as c.pass.ensures c.in-Ok.is c.in-Other.is) c.is_other_wanted.ensures in
     let g = to-value _ _ _ _ _ m c.is_key-in-Other.ensures c.if-is_key-2.false in
     (g.deep l.invariant.0, omega (arith, l.invariant.1, g.on), g.same ∙ l.invariant.2)
 

@@ -1,4 +1,5 @@
 -- `payload::read_string` meets its contract. Assumes nothing.
+use Rattle.std.proofs.Common.{rules}
 use mathlib.Core.Path.{sym}
 use Rattle.form.specs.Readers.{and_then, placed}
 use Rattle.laws.proofs.Places.{string-then}
@@ -11,4 +12,4 @@ returns-in_err-len c = rw (string-then, handed _ c.from_residual.ensures, sym c.
 
 pub returns : goal.returns
 unfolding and_then
-returns c = rw (string-then, sym c.in_ok-len.ensures) c.read_bytes.ensures
+returns c = rw (string-then, sym c.in_ok-len.ensures) (search rules)

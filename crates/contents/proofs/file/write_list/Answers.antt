@@ -1,14 +1,16 @@
 -- `contents::file::write_list` meets its contract. Assumes nothing.
-use Rattle.std.proofs.Common.{length, arith}
+use Rattle.std.proofs.Common.{rules, length, arith}
 use Rattle.std.proofs.lemmas.Result.{err_from_is_err_and}
 use Rattle.laws.proofs.FileBack.{length-file}
-use Rattle.contents.proofs.Judged.{fits, refused-so, written-so}
+use Rattle.contents.specs.Slots.{put_all}
+use Rattle.contents.proofs.Judged.{fits, refused-left, written-so}
 use Rattle.contents.proofs.file.write_list.Goals as goal
 
 pub returns-in_err-need : goal.returns-in_err-need
+unfolding put_all
 returns-in_err-need g c =
     let p = err_from_is_err_and c.from_residual.result c.from_residual.ensures.1 in
-    rw (p.1, p.2) (refused-so c.in_err-need.ensures)
+    rw (p.1, p.2) (refused-left _ (search rules) c.in_err-need.ensures)
 
 pub put_file-requires-clause-few : goal.put_file-requires-clause-few
 put_file-requires-clause-few g c = (fits (g.T.Slot.entries c.args.list.now) (length c.args.out.now) c.in_ok-need.ensures).few

@@ -1,5 +1,7 @@
 -- `contents::filling::collect` meets its contract. Assumes nothing.
-use Rattle.std.proofs.Common.{arith}
+use mathlib.Core.Path.{◌≡◌}
+use Rattle.std.specs.Prelude.{Err}
+use Rattle.std.proofs.Common.{rules, arith}
 use Rattle.std.proofs.lemmas.Result.{err_from_is_err_and}
 use Rattle.laws.proofs.InOrder.{contents-length}
 use Rattle.contents.proofs.Collected.{at-first, fewer, end-inside, next, at-last, first-refused, next-refused}
@@ -18,8 +20,9 @@ returns-in_err-key-2 g c =
     let l = c.loop-key in
     let i = rw c.in-Some.is at l.invariant in
     let p = err_from_is_err_and c.from_residual-in_err-key-2.result c.from_residual-in_err-key-2.ensures.1 in
-    rw (p.1, p.2)
-    (next-refused g.T.Slot.put g.T.Slot.entries c.args.bytes.now c.args.list.now c.in-Some.k l.n l.list i c.in_err-key-2.field-0.0 c.in_err-key-2.ensures)
+    let e : c.next_key-in-Some.result ≡ Err c.in_err-key-2.field-0.0 = search rules in
+    let h = rw e at c.next_key-in-Some.ensures in
+    rw (p.1, p.2) (next-refused g.T.Slot.put g.T.Slot.entries c.args.bytes.now c.args.list.now c.in-Some.k l.n l.list i c.in_err-key-2.field-0.0 h)
 
 pub entry-requires-clause-end : goal.entry-requires-clause-end
 entry-requires-clause-end g c = omega (arith, end-inside c.args.bytes.now c.in-Some.k.end c.in_ok-key-2.key c.in_ok-key-2.ensures)

@@ -1,9 +1,10 @@
 -- `lexer::Lexer::peek_id` meets its contract. Assumes nothing.
-use Rattle.std.proofs.Common.{rules}
-use Rattle.lexer.proofs.Endings.{peeked-by}
+use Rattle.lexeme.specs.declared.LexemeId.{LexemeId}
+use Rattle.form.specs.Readers.{at}
+use Rattle.form.specs.Reading.{num}
+use Rattle.lexer.proofs.Endings.{peeked-by, either}
 use Rattle.lexer.proofs.Lexer.peek_id.Goals as goal
 
 pub returns : goal.returns
 returns c =
-    let h = peeked-by (λ x. x.0) _ _ _ _ c.read_id.ensures c.peeked.ensures in
-    search (rules, h)
+    search (either, peeked-by (λ (x : LexemeId). x.0) (at (num 2)))

@@ -1,9 +1,8 @@
 -- `lexer::Lexer::peek_token` meets its contract. Assumes nothing.
-use Rattle.std.proofs.Common.{rules}
-use Rattle.lexer.proofs.Endings.{peeked-by}
+use Rattle.token.specs.Tokens.{token_at}
+use Rattle.lexer.proofs.Endings.{peeked-by, either}
 use Rattle.lexer.proofs.Lexer.peek_token.Goals as goal
 
 pub returns : goal.returns
 returns c =
-    let h = peeked-by (λ t. t) _ _ _ _ c.read_token.ensures c.peeked.ensures in
-    search (rules, h)
+    search (either, peeked-by (λ t. t) token_at)

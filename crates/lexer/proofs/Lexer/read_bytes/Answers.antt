@@ -2,8 +2,7 @@
 use Rattle.form.specs.Calls.{reads}
 use Rattle.payload.proofs.Handed.{handed}
 use Rattle.lexer.specs.Calls.{bytes_at}
-use Rattle.std.proofs.Common.{rules}
-use Rattle.lexer.proofs.Endings.{told-inside, told-outside, placed-ended, handed-on}
+use Rattle.lexer.proofs.Endings.{told-inside, told-outside, placed-ended, either}
 use Rattle.lexer.proofs.Lexer.read_bytes.Goals as goal
 
 pub returns-in_err-place : goal.returns-in_err-place
@@ -13,5 +12,5 @@ returns-in_err-place c = rw (handed _ c.from_residual.ensures) (told-outside _ _
 pub returns : goal.returns
 returns c =
     let h = told-inside _ _ c.place.ensures c.in_ok-place.was in
-    let e = placed-ended (λ t. t) (bytes_at c.args.count) _ _ h c.read_bytes.ensures (handed-on (search rules) c.ended.ensures) in
-    search (rules, e)
+    let e = placed-ended (λ t. t) (bytes_at c.args.count) _ _ h (search either) c.ended.ensures in
+    search (either, e)

@@ -31,23 +31,23 @@ loop-x-preserved-in-Some c =
 -- ---- or another token
 
 pub returns-then-end-bytes : goal.returns-then-end-bytes
-returns-then-end-bytes c = going_end (omega arith) (went_on c.loop-x.invariant c.standing-run.ensures.0 c.copy_run-need.ensures) (omega arith)
+returns-then-end-bytes c = going_end (omega arith) (went_on c.loop-x.invariant c.standing-run.ensures.0 c.copy_run-need-in-None.ensures) (omega arith)
 
 pub returns-in_err-next-in-None : goal.returns-in_err-next-in-None
 returns-in_err-next-in-None c =
     rw (handed _ c.from_residual.ensures)
-    (going-stopped (went_on c.loop-x.invariant c.standing-run.ensures.0 c.copy_run-need.ensures) c.in_err-next-in-None.ensures _)
+    (going-stopped (went_on c.loop-x.invariant c.standing-run.ensures.0 c.copy_run-need-in-None.ensures) c.in_err-next-in-None.ensures _)
 
 pub overflow_add-need : goal.overflow_add-need
 overflow_add-need c =
-    let t = turned (went_on c.loop-x.invariant c.standing-run.ensures.0 c.copy_run-need.ensures) c.in_ok-next-in-None.ensures in
+    let t = turned (went_on c.loop-x.invariant c.standing-run.ensures.0 c.copy_run-need-in-None.ensures) c.in_ok-next-in-None.ensures in
     omega (arith, bounded t.1 c.requires)
 
 pub loop-x-smaller : goal.loop-x-smaller
 loop-x-smaller c =
     let h = c.standing-run.ensures.0 in
-    let t = turned (went_on c.loop-x.invariant h c.copy_run-need.ensures) c.in_ok-next-in-None.ensures in
+    let t = turned (went_on c.loop-x.invariant h c.copy_run-need-in-None.ensures) c.in_ok-next-in-None.ensures in
     omega (arith, h.on, t.0, t.1.spells.there)
 
 pub loop-x-preserved : goal.loop-x-preserved
-loop-x-preserved c = (turned (went_on c.loop-x.invariant c.standing-run.ensures.0 c.copy_run-need.ensures) c.in_ok-next-in-None.ensures).1
+loop-x-preserved c = (turned (went_on c.loop-x.invariant c.standing-run.ensures.0 c.copy_run-need-in-None.ensures) c.in_ok-next-in-None.ensures).1

@@ -1,8 +1,9 @@
 -- `payload::colour::read_channels` meets its contract. Assumes nothing.
+use Rattle.std.proofs.Common.{rules}
 use mathlib.Core.Path.{sym}
 use Rattle.form.specs.Readers.{and_then}
 use Rattle.laws.proofs.Places.{channels-then}
-use Rattle.payload.proofs.Handed.{handed}
+use Rattle.payload.proofs.Handed.{handed, Lacked, lacked}
 use Rattle.payload.proofs.colour.read_channels.Goals as goal
 
 pub returns-in_err-open : goal.returns-in_err-open
@@ -23,7 +24,9 @@ returns-in_err-b c = rw (channels-then, sym c.in_ok-open.ensures, sym c.in_ok-r.
 
 pub returns-in_err-end : goal.returns-in_err-end
 unfolding and_then
-returns-in_err-end c = rw (channels-then, sym c.in_ok-open.ensures, sym c.in_ok-r.ensures, sym c.in_ok-g.ensures, sym c.in_ok-b.ensures, handed _ c.from_residual-in_err-end.ensures, sym c.in_err-end.ensures)
+returns-in_err-end c =
+    let l : Lacked c.read_id-2.result c.from_residual-in_err-end.result = search rules in
+    rw (channels-then, sym c.in_ok-open.ensures, sym c.in_ok-r.ensures, sym c.in_ok-g.ensures, sym c.in_ok-b.ensures) (lacked _ _ _ _ l c.read_id-2.ensures _)
 
 pub returns-then-begins : goal.returns-then-begins
 unfolding and_then

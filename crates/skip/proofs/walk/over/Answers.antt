@@ -1,6 +1,8 @@
 -- `skip::walk::over` meets its contract. Assumes nothing.
 use native.Mathlib.Omega.{arith}
-use mathlib.Core.Path.{sym, ◌∙◌}
+use mathlib.Core.Path.{◌≡◌, sym, ◌∙◌}
+use Rattle.std.specs.Prelude.{Err}
+use Rattle.std.proofs.Common.{rules}
 use Rattle.laws.proofs.SkipSteps.{passing-on}
 use Rattle.payload.proofs.Handed.{handed}
 use Rattle.skip.proofs.Turns.{cut_short, deeper, out, higher, onward, over-at}
@@ -11,7 +13,9 @@ returns-then-depth-lt2 c = record { answer = sym (out _ _ _ _ c.in-4.is c.if-dep
 
 pub returns-in_err-end-in_default : goal.returns-in_err-end-in_default
 returns-in_err-end-in_default c =
-    rw (handed _ c.from_residual.ensures) (record { answer = sym (cut_short _ _ _ _ (sym c.in_err-end-in_default.ensures)); moves = tt })
+    let e : c.skip_payload.result ≡ Err c.in_err-end-in_default.field-0.0 = search rules in
+    let h = rw e at c.skip_payload.ensures in
+    rw (handed _ c.from_residual.ensures) (record { answer = sym (cut_short _ _ _ _ (sym h)); moves = tt })
 
 pub returns-then-depth-eq0 : goal.returns-then-depth-eq0
 returns-then-depth-eq0 c =
